@@ -1,0 +1,4 @@
+pub mod Bytes
+pub mod Registers
+pub mod Instructions
+pub mod Entries

@@ -1,5 +1,10 @@
 // What the record and the outlet hold.
-ghost use Prim.Native.Nat.{_<_, _≤_};
+ghost use Prim.Native.Nat.{_<_};
+use crate::below::BelowDebug;
+use crate::below::BelowPartialEq;
+use crate::below::Channel;
+use crate::below::CoreNumber;
+use crate::below::UnitCount;
 
 // How a unit of a core ended.
 #[derive(Clone, Copy, PartialEq, Eq, Debug)]
@@ -10,20 +15,6 @@ pub enum Mark {
     Discarded,
     // it faulted after taking the token early, and what it wrote and sent stays
     Kept,
-}
-
-// A core's number, 0 to 7.
-#[derive(Clone, Copy, PartialEq, Eq, Debug)]
-pub struct CoreNumber {
-    value: u8,
-    ghost fits: { value < 8 },
-}
-
-// How many instructions a unit performed, at most 4,096.
-#[derive(Clone, Copy, PartialEq, Eq, Debug)]
-pub struct UnitCount {
-    value: u16,
-    ghost fits: { value ≤ 4096 },
 }
 
 // An entry of the record: which core finished a unit, how, and how many instructions it performed.
@@ -37,6 +28,7 @@ pub struct RecordEntry {
 // An entry of the outlet: a word sent on a channel.
 #[derive(Clone, Copy, PartialEq, Eq, Debug)]
 pub struct SentEntry {
-    pub channel: u8,
+    pub channel: Channel,
     pub word: u32,
+    ghost fits: { word < 4294967296 },
 }

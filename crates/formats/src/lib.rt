@@ -1,5 +1,6 @@
-// The packed formats: instructions, record entries and outlet entries, each with its codec.
+// The packed formats: instructions, record entries and outlet entries, and what it means to be packed.
+pub mod below;
 pub mod entry;
-pub mod immediate;
 pub mod instruction;
+pub mod packed;
 pub mod register;
