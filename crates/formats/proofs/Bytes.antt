@@ -81,3 +81,8 @@ back-from k code decode back bs e h is = ap (bytesOf k) (back (spelled bs) e (sp
 pub low-four : (n : ℕ) → spelled (bytesOf 4 n) ≡ n % 4294967296
 unfolding bytesOf
 low-four n = omega arith
+
+-- and the lowest five by 2 ^ 40
+pub low-five : (n : ℕ) → spelled (bytesOf 5 n) ≡ n % 1099511627776
+unfolding bytesOf
+low-five n = omega arith

@@ -20,8 +20,9 @@ use Rattle.formats.specs.declared.register.Register.the-variants.{R0, R1, R2, 
 use Rattle.formats.specs.declared.instruction.Fields.{Fields}
 use Rattle.formats.specs.declared.instruction.Instruction.{Instruction}
 use Rattle.formats.specs.declared.instruction.Instruction.the-variants.{Halt, Set, Add, Sub, Mean, Load, Store, Jump, Jz, Jlt, Begin, End, Retry, Early, Out}
+use Rattle.formats.specs.Belows.{immediateOf, channelOf}
 use Rattle.formats.specs.Registers.{registerNumber, registerAt}
-use Rattle.formats.specs.Instructions.{immediateOf, channelOf, placed, joined, split, encoded, decoded, onlyIf, instructionWord, wordInstruction}
+use Rattle.formats.specs.Instructions.{placed, joined, split, encoded, decoded, onlyIf, instructionWord, wordInstruction}
 use Rattle.formats.proofs.Belows.{same-value}
 
 apart : (o k : ℕ) → k < o → eqb o k ≡ false

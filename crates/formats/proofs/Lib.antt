@@ -1,3 +1,5 @@
 pub mod Belows
 pub mod Bytes
 pub mod Instructions
+pub mod Records
+pub mod Sents

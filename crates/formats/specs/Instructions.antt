@@ -4,10 +4,9 @@ use mathlib.Core.Path.{_≡_}
 use mathlib.Core.Bool.{Bool, true, false, cond, _&&_}
 use mathlib.Core.List.{List}
 use Prim.Native.Nat.{ℕ, _+_, _*_, _/_, _%_}
-use lib.Dec.{eqb, ltb, lit<}
+use lib.Dec.{eqb, ltb}
 use Rattle.std.specs.declared.result.Result.{Result}
 use Rattle.std.specs.declared.result.Result.the-variants.{Ok, Err}
-use Rattle.std.proofs.shelf.Bits.{mod-below}
 use Rattle.answers.specs.declared.refusal.InstructionFault.{InstructionFault}
 use Rattle.answers.specs.declared.refusal.InstructionFault.the-variants.{UnknownOpcode, BadField}
 use Rattle.formats.specs.declared.below.Below.{Below}
@@ -16,6 +15,7 @@ use Rattle.formats.specs.declared.register.Register.the-variants.{R0}
 use Rattle.formats.specs.declared.instruction.Fields.{Fields}
 use Rattle.formats.specs.declared.instruction.Instruction.{Instruction}
 use Rattle.formats.specs.declared.instruction.Instruction.the-variants.{Halt, Set, Add, Sub, Mean, Load, Store, Jump, Jz, Jlt, Begin, End, Retry, Early, Out}
+use Rattle.formats.specs.Belows.{immediateOf, channelOf}
 use Rattle.formats.specs.Bytes.{bytesOf, spelled}
 use Rattle.formats.specs.Registers.{registerNumber, registerAt}
 
@@ -23,13 +23,6 @@ use Rattle.formats.specs.Registers.{registerNumber, registerAt}
 abbrev pub joined : Fields → ℕ
 joined f =
     f .opcode * 134217728 + registerNumber (f .d) * 16777216 + registerNumber (f .a) * 2097152 + registerNumber (f .b) * 262144 + f .n .value
-
--- the number in a word's lowest bits: 18 of an instruction's constant, 8 of a channel
-abbrev pub immediateOf : ℕ → Below 262144
-immediateOf n = record { value = n % 262144; fits = mod-below n 262144 (lit< tt) }
-
-abbrev pub channelOf : ℕ → Below 256
-channelOf n = record { value = n % 256; fits = mod-below n 256 (lit< tt) }
 
 -- a word's fields
 abbrev pub split : ℕ → Fields

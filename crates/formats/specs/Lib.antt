@@ -1,4 +1,6 @@
 pub mod Bytes
+pub mod Belows
 pub mod Registers
 pub mod Instructions
-pub mod Entries
+pub mod Records
+pub mod Sents

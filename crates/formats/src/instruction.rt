@@ -1,11 +1,13 @@
 // The instructions of a core, and their packed form: one word, most significant byte first.
 ghost use mathlib.Core.Path.{_≡_};
 ghost use Prim.Native.Nat.{_<_};
-ghost use Rattle.formats.specs.Instructions.{immediateOf, channelOf, placed, joined, split, encoded, decoded, onlyIf, wordInstruction, instructionWord, bytesInstruction, instructionBytes};
+ghost use Rattle.formats.specs.Instructions.{placed, joined, split, encoded, decoded, onlyIf, wordInstruction, instructionWord, bytesInstruction, instructionBytes};
 use crate::below::BelowDebug;
 use crate::below::BelowPartialEq;
 use crate::below::Channel;
 use crate::below::Immediate;
+use crate::low::channel_of;
+use crate::low::immediate_of;
 use crate::packed::PackedEntry;
 use crate::register::Register;
 use crate::register::RegisterDebug;
@@ -75,20 +77,6 @@ pub struct Fields {
     a: Register,
     b: Register,
     n: Immediate,
-}
-
-// The number in a word's lowest 18 bits.
-fn immediate_of(word: u32) -> Immediate
-    ensures { λ r. ⌜ r ≡ immediateOf word ⌝ }
-{
-    Immediate::low_bits(word)
-}
-
-// The channel in a word's lowest 8 bits.
-fn channel_of(word: u32) -> Channel
-    ensures { λ r. ⌜ r ≡ channelOf word ⌝ }
-{
-    Channel::low_bits(word)
 }
 
 // The fields, by place.

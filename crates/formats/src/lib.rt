@@ -2,5 +2,8 @@
 pub mod below;
 pub mod entry;
 pub mod instruction;
+mod low;
 pub mod packed;
+pub mod record;
 pub mod register;
+pub mod sent;

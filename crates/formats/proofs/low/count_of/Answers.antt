@@ -1,5 +1,5 @@
 use Rattle.formats.proofs.Belows.{same-value}
-use Rattle.formats.proofs.instruction.immediate_of.Needs as need
+use Rattle.formats.proofs.low.count_of.Needs as need
 
 pub returns : need.returns
 returns c = same-value _ _ _ (c .low-bits .ensures)
