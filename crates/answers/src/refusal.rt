@@ -1,7 +1,8 @@
 // Why a call was refused: each case is a question that was answered with no.
 ghost use mathlib.Core.Path.{_≡_};
 ghost use Prim.Native.Nat.{ℕ};
-ghost use Rattle.answers.specs.Refusals.{instructionNumber, entryNumber, programNumber};
+ghost use Rattle.answers.specs.Refusals.{instructionNumber, entryNumber, programNumber, listNumber, programRefusalNumber, outsideListNumber, outsideMemoryNumber, nothingWaitsNumber, placedFault, programRefusal};
+ghost use Rattle.answers.specs.declared.refusal.ListRefusal.the-variants.{Entry};
 
 // A refusal has the number of its question.
 pub trait Refusal {
@@ -38,6 +39,33 @@ pub enum ProgramFault {
     TargetOutside,
     // the last instruction is neither HALT nor JUMP
     NoEnd,
+}
+
+// A fault with the place of the entry that has it, counted from 0.
+#[derive(Clone, Copy, PartialEq, Eq, Debug)]
+pub struct Placed<F> {
+    pub fault: F,
+    pub place: usize,
+}
+
+// A place of a packed list that has no entry, or whose bytes do not unpack.
+#[derive(Clone, Copy, PartialEq, Eq, Debug)]
+pub enum ListRefusal<F> {
+    // the place is not inside the bytes
+    Outside,
+    // the entry there does not unpack
+    Entry(Placed<F>),
+}
+
+// The place is not inside the bytes of a packed list.
+#[derive(Clone, Copy, PartialEq, Eq, Debug)]
+pub struct OutsideList;
+
+// A program that is not accepted, and the number of the instruction that says so.
+#[derive(Clone, Copy, PartialEq, Eq, Debug)]
+pub struct ProgramRefusal {
+    pub fault: ProgramFault,
+    pub place: usize,
 }
 
 // The address is not below the memory's length.
@@ -83,5 +111,84 @@ pub impl Refusal for ProgramFault as ProgramFaultRefusal {
             ProgramFault::TargetOutside => 4,
             ProgramFault::NoEnd => 5,
         }
+    }
+}
+
+// The fault of an entry, at its place.
+pub fn at_place<T, F>(result: Result<T, F>, place: usize) -> Result<T, Placed<F>>
+    ensures { λ r. ⌜ r ≡ placedFault place result ⌝ }
+{
+    match result {
+        Ok(value) => Ok(value),
+        Err(fault) => Err(Placed { fault, place }),
+    }
+}
+
+pub impl<F> From<Placed<F>> for ListRefusal<F> as ListRefusalFromPlaced {
+    ghost converts = { λ p r. r ≡ Entry p };
+
+    fn from(value: Placed<F>) -> ListRefusal<F> {
+        ListRefusal::Entry(value)
+    }
+}
+
+// A fault inside a list of instructions becomes the program's, at its place. A place outside the bytes means too few bytes.
+pub impl From<ListRefusal<InstructionFault>> for ProgramRefusal as ProgramRefusalFromList {
+    ghost converts = { λ l r. r ≡ programRefusal l };
+
+    fn from(value: ListRefusal<InstructionFault>) -> ProgramRefusal {
+        match value {
+            ListRefusal::Outside => ProgramRefusal {
+                fault: ProgramFault::ByteCount,
+                place: 0,
+            },
+            ListRefusal::Entry(placed) => ProgramRefusal {
+                fault: ProgramFault::Instruction(placed.fault),
+                place: placed.place,
+            },
+        }
+    }
+}
+
+pub impl<F: Refusal> Refusal for ListRefusal<F> as ListRefusalRefusal {
+    ghost number = { listNumber (F·Refusal .number) };
+
+    fn number(&self) -> u8 {
+        match self {
+            ListRefusal::Outside => 16,
+            ListRefusal::Entry(placed) => placed.fault.number(),
+        }
+    }
+}
+
+pub impl Refusal for OutsideList as OutsideListRefusal {
+    ghost number = { outsideListNumber };
+
+    fn number(&self) -> u8 {
+        16
+    }
+}
+
+pub impl Refusal for OutsideMemory as OutsideMemoryRefusal {
+    ghost number = { outsideMemoryNumber };
+
+    fn number(&self) -> u8 {
+        14
+    }
+}
+
+pub impl Refusal for NothingWaits as NothingWaitsRefusal {
+    ghost number = { nothingWaitsNumber };
+
+    fn number(&self) -> u8 {
+        15
+    }
+}
+
+pub impl Refusal for ProgramRefusal as ProgramRefusalRefusal {
+    ghost number = { programRefusalNumber };
+
+    fn number(&self) -> u8 {
+        self.fault.number()
     }
 }

@@ -15,7 +15,8 @@ use Rattle.std.proofs.shelf.Bits.{mod-below, div-below, div-mul-add, mod-mul-ad
 use Rattle.std.proofs.shelf.Digits.{number-push, number-lt}
 use Rattle.formats.specs.Bytes.{AllBytes, AreBytes, bytesOf, spelled}
 
-all-push : (bs : List ℕ) (b : ℕ) → AllBytes bs → b < 256 → AllBytes (bs ++ (b ∷ []))
+-- one byte more
+pub all-push : (bs : List ℕ) (b : ℕ) → AllBytes bs → b < 256 → AllBytes (bs ++ (b ∷ []))
 all-push [] b h k = (k, tt)
 all-push (x ∷ bs) b h k = (h .0, all-push bs b (h .1) k)
 
