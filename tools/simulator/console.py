@@ -1,5 +1,7 @@
 """The console: plays a scenario, given as bytes, and gives its output lines."""
 
+from collections import Counter
+
 from .devices import ByteMemory, ByteOutlet, StoreOutlet, WordMemory
 from .engine import FREE, HOST, Engine
 from .formats import (
@@ -85,7 +87,9 @@ class Console:
         self.memory = None
         self.outlet = None
         self.engine = None
-        self.checks = 0
+        self.seen = Counter()  # how often each answer, refusal and reason occurred
+        self.moves = Counter()  # with laws checked: (state, instruction, answer) of each step
+        self.checks = 0  # moments at which the serial law was checked
 
     def play(self, data):
         """Gives the output lines, one after the other."""
@@ -94,7 +98,7 @@ class Console:
         if self.engine is not None and self.engine.token == HOST:
             self.engine.give_back()
             yield "(end) give back -> given back"
-        self._count_checks()
+        self._collect()
 
     def line(self, line):
         text = line.split(b"#", 1)[0].decode("latin-1")
@@ -105,10 +109,11 @@ class Console:
         try:
             lines = self.command(list(tokens))
         except NotUnderstood as why:
+            self.seen[f"not understood: {why}"] += 1
             yield f"-> not understood: {why}"
             return
         except Refused as refusal:
-            lines = [refusal.text()]
+            lines = [self._refused(refusal)]
         yield f"{' '.join(tokens)} -> {lines[0]}"
         yield from lines[1:]
 
@@ -122,6 +127,10 @@ class Console:
             raise NotUnderstood("unknown command")
         answer = perform(self, Words(tokens))
         return answer if isinstance(answer, list) else [answer]
+
+    def _refused(self, refusal):
+        self.seen[f"refused {refusal.number}"] += 1
+        return refusal.text()
 
     # ---- programs and packed words
 
@@ -175,7 +184,7 @@ class Console:
             try:
                 shown = kind.show(packed.get(place))
             except Refused as refusal:
-                shown = refusal.text()
+                shown = self._refused(refusal)
             lines.append(f"  {place}: {shown}")
         return lines
 
@@ -209,20 +218,21 @@ class Console:
             raise NotUnderstood("no program")
         if self.engine is not None and self.engine.token == HOST:
             self.engine.give_back()
-        self._count_checks()
+        self._collect()
         memory = self.memory if self.memory is not None else WordMemory([0] * 16)
         outlet = self.outlet if self.outlet is not None else StoreOutlet()
         self.memory = self.outlet = None
         make = WatchedEngine if self.check_laws else Engine
         self.engine = make(lines, entries, self.program, memory, outlet)
         if self.engine.refusal is not None:
-            return f"{self.engine.refusal.text()} cores 0"
+            return f"{self._refused(self.engine.refusal)} cores 0"
         return f"cores {len(self.engine.cores)}"
 
-    def _count_checks(self):
+    def _collect(self):
+        """Adds up what the observer of the engine that is now left has counted."""
         if self.check_laws and self.engine is not None:
             self.checks += self.engine.checks
-            self.engine.checks = 0
+            self.moves += self.engine.moves
 
     def _call(self, call):
         """Calls the engine; while laws are checked, a refused call must change nothing."""
@@ -232,14 +242,28 @@ class Console:
             return refused_changes_nothing(self.engine, lambda: call(self.engine))
         return call(self.engine)
 
+    def _move(self, call):
+        """A step or a turn."""
+        try:
+            answer = self._call(call)
+        except Refused as refusal:
+            if refusal.number == 11 and self.engine.token not in (FREE, HOST):
+                self.seen["refused 11 while a core has the token"] += 1
+            raise
+        if answer.startswith("faulted"):
+            self.seen[f"{answer.split(' at ')[0]} mark {self.engine.record[-1].mark}"] += 1
+        else:
+            self.seen[answer] += 1
+        return answer
+
     def do_step(self, words):
         index = words.number()
         words.end()
-        return self._call(lambda engine: engine.step(index))
+        return self._move(lambda engine: engine.step(index))
 
     def do_turn(self, words):
         words.end()
-        return self._call(lambda engine: engine.turn())
+        return self._move(lambda engine: engine.turn())
 
     def do_steps(self, words):
         index = words.number()
@@ -258,9 +282,9 @@ class Console:
         answer = "none"
         for called in range(1, times + 1):
             try:
-                answer = self._call(call)
+                answer = self._move(call)
             except Refused as refusal:
-                return f"{refusal.text()} after {called}"
+                return f"{self._refused(refusal)} after {called}"
         return f"{answer} after {times}"
 
     def do_hold(self, words):

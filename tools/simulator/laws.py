@@ -5,6 +5,8 @@ written to memory, the entries taken. It knows no tags, lines or states but for 
 says of a core.
 """
 
+from collections import Counter
+
 from .engine import FREE, HOST, Engine
 from .formats import Refused, address_of
 from .one_at_a_time import Impossible, Machine
@@ -55,6 +57,7 @@ class WatchedEngine(Engine):
         self.blocks = [Block() for _ in self.cores]
         self.turns_made = 0
         self.checks = 0
+        self.moves = Counter()
         self.held_words = None
         self._note_clearing()
         self._check_serial()
@@ -128,15 +131,17 @@ class WatchedEngine(Engine):
     # ---- the roll-back law
 
     def _watch(self, index, call):
-        known = index < len(self.cores)
-        if known and self.cores[index].pc < len(self.program):
+        instruction = address = state = None
+        if index < len(self.cores):
             core = self.cores[index]
-            instruction = self.program[core.pc]
-            address = address_of(instruction, core.registers)
-        else:
-            instruction = address = None
+            state = core.state.value
+            if core.pc < len(self.program):
+                instruction = self.program[core.pc]
+                address = address_of(instruction, core.registers)
         self.memory.written.clear()
         answer = call()  # a refusal passes through here
+        name = instruction.name if instruction is not None else "-"
+        self.moves[state, name, answer.split(" at ")[0]] += 1
         self._note_step(index, instruction, address, answer)
         self._check_serial()
         return answer
