@@ -48,7 +48,8 @@ class Maker:
             kind = self.pick(self.formats, self.formats, self.damage)
         else:
             kinds = [
-                (45, self.conflicts),
+                (40, self.conflicts),
+                (20, self.windows),
                 (14, self.wild),
                 (8, self.full_record),
                 (6, self.outlets),
@@ -281,6 +282,73 @@ class Maker:
         entries = [self.pick(*starts) for _ in range(cores)]
         self.say("make", lines, *entries)
         self.run(cores, self.random.randint(40, 300), 0.05)
+
+    def role(self, start):
+        """A unit or two for a core that goes round and round while others commit."""
+
+        def load(d):
+            return Instruction("LOAD", d=d, a=0, n=self.below(self.addresses))
+
+        def store():
+            return Instruction("STORE", a=0, b=1, n=self.below(self.addresses))
+
+        begin, end = Instruction("BEGIN"), Instruction("END")
+        count_up = [load(1), Instruction("SET", d=2, n=1), Instruction("ADD", d=1, a=1, b=2)]
+        stores = [store() for _ in range(self.random.randint(1, 4))]
+        early = [self.pick(Instruction("EARLY"), self.sending())]
+        bad = self.pick(Instruction("HALT"), Instruction("LOAD", d=1, a=0, n=99))
+        later = [load(5) for _ in range(self.below(12))]
+        pointed = Instruction("LOAD", d=3, a=1, n=0)  # outside once the word has grown
+        roles = [
+            [begin, *count_up, *stores, end],
+            [begin, *count_up, *stores, end],
+            [begin, *count_up, *stores, *early, store(), end],
+            [begin, load(1), load(3), end],
+            [begin, load(1), end],
+            [begin, store(), load(3), load(4), end],
+            [*later, begin, load(1), load(3), bad],
+            [*later, begin, load(1), load(3), bad],
+            [begin, load(1), pointed, end],
+            [*later, begin, *count_up, store(), *early, store(), bad],
+            [load(3), load(4)],
+            [*count_up, store()],
+            [Instruction("SET", d=1, n=self.below(9)), store(), self.sending()],
+        ]
+        return self.pick(*roles) + [Instruction("JUMP", n=start)]
+
+    def windows(self):
+        """Commits of several words, with other cores looking in between, a step at a time."""
+        self.addresses = self.random.randint(2, 4)
+        cores = self.random.randint(2, 4)
+        program, entries = [], []
+        for _ in range(cores):
+            entries.append(len(program))
+            program += self.role(len(program))
+        self.give_program(program)
+        self.give_memory(self.addresses)
+        self.give_outlet()
+        self.say("make", self.pick(2, 3, 4, 8), *entries)
+        for _ in range(self.random.randint(100, 250)):
+            dice = self.random.random()
+            if dice < 0.80:
+                self.say("step", self.below(cores))
+            elif dice < 0.86:
+                self.say("steps", self.below(cores), self.below(6))
+            elif dice < 0.90:
+                self.say("turn")
+            elif dice < 0.93:
+                self.say("take")
+            elif dice < 0.95:
+                self.say("hold")
+                for _ in range(self.below(5)):
+                    self.say(self.pick(f"read {self.below(self.addresses)}", "turn"))
+                self.say("give back")
+            elif dice < 0.965:
+                self.say("clear")
+            else:
+                core = self.below(cores)
+                self.say(self.pick("token", f"core {core}", f"tags {core} 8", "record 3"))
+        self.look(cores)
 
     def wild(self):
         """Programs of any instructions."""
