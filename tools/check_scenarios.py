@@ -9,6 +9,7 @@ the scenario on its standard input.
 
 import argparse
 import difflib
+import itertools
 import pathlib
 import shlex
 import subprocess
@@ -18,6 +19,53 @@ from simulator.console import Console
 from simulator.laws import LawBroken
 
 SCENARIOS = pathlib.Path(__file__).parent / "scenarios"
+
+
+def from_files():
+    """Each scenario's name, text and worked output."""
+    for scenario in sorted(SCENARIOS.glob("*.txt")):
+        expected = scenario.with_suffix(".expected").read_text().splitlines()
+        yield scenario.name, scenario.read_bytes(), expected
+
+
+def limits():
+    """A scenario at the limits; its lines are too long to stand in a file."""
+    played = [
+        ("program" + " 0" * 512, "accepted 512"),
+        ("program" + " 0" * 513, "refused 1 at 0"),
+        ("memory bytes " + "00000000" * 4095 + "0000002A", "words 4096"),
+        ("make 32" + " 511" * 8, "cores 8"),
+        ("step 7", "done"),
+        ("step 8", "refused 10"),
+        ("hold", "held"),
+        ("read 4095", "word 42"),
+        ("read 4096", "refused 14"),
+        ("give back", "given back"),
+        ("make 32" + " 0" * 9, "refused 6 cores 0"),
+        ("make 33 0", "refused 7 cores 0"),
+        ("make 32 512", "refused 9 cores 0"),
+        ("memory words" + " 0" * 4096 + " 42", "words 4097"),
+        ("make 32 0", "refused 8 cores 0"),
+        ("hold", "held"),
+        ("read 4096", "word 42"),
+        ("read 4097", "refused 14"),
+        ("give back", "given back"),
+        ("memory bytes " + "00000000" * 65535 + "0000002A" + "000000", "words 65536"),
+        ("make 32 0", "refused 8 cores 0"),
+        ("hold", "held"),
+        ("read 65535", "word 42"),
+        ("read 65536", "refused 14"),
+        ("make 32 0", "cores 1"),
+        ("memory words" + " 7" * 65537, "words 65536"),
+        ("make 32 0", "refused 8 cores 0"),
+        ("hold", "held"),
+        ("read 65535", "word 7"),
+        ("read 65536", "refused 14"),
+        ("turn", "refused 10"),
+        ("give back", "given back"),
+    ]
+    text = "".join(f"{command}\n" for command, _ in played)
+    yield "limits", text.encode(), [f"{command} -> {answer}" for command, answer in played]
 
 
 def by_simulator(data):
@@ -37,17 +85,15 @@ def main():
     parser.add_argument("--hub", metavar="COMMAND", help="play by this command")
     options = parser.parse_args()
     passed = failed = 0
-    for scenario in sorted(SCENARIOS.glob("*.txt")):
-        data = scenario.read_bytes()
-        expected = scenario.with_suffix(".expected").read_text().splitlines()
+    for name, data, expected in itertools.chain(from_files(), limits()):
         found = by_command(options.hub, data) if options.hub else by_simulator(data)
         if found == expected:
             passed += 1
             continue
         failed += 1
-        print(f"{scenario.name} differs:")
+        print(f"{name} differs:")
         for line in difflib.unified_diff(expected, found, "worked", "played", lineterm="", n=1):
-            print("  " + line)
+            print("  " + line[:200])
     print(f"{passed} passed, {failed} failed")
     return 1 if failed else 0
 
