@@ -4,4 +4,5 @@ pub mod OneAtATime
 pub mod Lines
 pub mod Cores
 pub mod Engine
-pub mod Calls
+pub mod Runs
+pub mod Laws
