@@ -1,0 +1,6 @@
+pub mod Lines
+pub mod Invariant
+pub mod Keeps
+pub mod Turns
+pub mod Leaves
+pub mod Plain
