@@ -4,3 +4,5 @@ pub mod Keeps
 pub mod Turns
 pub mod Leaves
 pub mod Plain
+pub mod Decoding
+pub mod Transaction
