@@ -129,7 +129,7 @@ settle-map x (c ∷ cs) = rw (settle-struck x c, settle-map x cs) refl
 pub settle-change : (e : Engine) (i : ℕ) (o : Outcome) → map settle (change e i o .cores) ≡ set (map settle (e .cores)) i (settle (o .core))
 settle-change e i o = map-set settle (map (struck (o .effect)) (e .cores)) i (o .core) ∙ ap (λ l. set l i (settle (o .core))) (settle-map (o .effect) (e .cores))
 
-length-after : (x : Effect) (m : List ℕ) → length (memoryAfter x m) ≡ length m
+pub length-after : (x : Effect) (m : List ℕ) → length (memoryAfter x m) ≡ length m
 length-after Nothing m = refl
 length-after (Wrote a w) m = length-set m a w
 length-after (Sent x) m = refl

@@ -6,3 +6,4 @@ pub mod Leaves
 pub mod Plain
 pub mod Decoding
 pub mod Transaction
+pub mod Holder
