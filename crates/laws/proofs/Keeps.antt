@@ -65,7 +65,7 @@ other-write EarlyCommit program m t t′ k c b a w e apart g p = absurd (apart g
 other-write Stopped program m t t′ k c b a w e apart g p = rw e (tt, p)
 
 -- another core's step that writes nothing
-other-still :
+pub other-still :
     (s : State) (program : List Instruction) (m : List ℕ) (t t′ : Token) (k : ℕ) (c : Core) →
     (t ≡ CoreHas k → t′ ≡ CoreHas k) → Good s program m t k c → Good s program m t′ k c
 other-still Bypass program m t t′ k c same g = tt
@@ -176,7 +176,7 @@ kept e j h i ask o b p shared held = record {
 
 -- the token is in one place
 
-free-core : (k : ℕ) → Free ≡ CoreHas k → ⊥
+pub free-core : (k : ℕ) → Free ≡ CoreHas k → ⊥
 free-core k h = let z : _≡_ {A = ℕ} 0 1 = cc in omega arith
 
 core-core : (i k : ℕ) → CoreHas i ≡ CoreHas k → k ≡ i

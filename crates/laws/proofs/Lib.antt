@@ -7,3 +7,5 @@ pub mod Plain
 pub mod Decoding
 pub mod Transaction
 pub mod Holder
+pub mod Calls
+pub mod Laws
