@@ -57,19 +57,28 @@ step-kept e j h i =
     let P : After (Result Answer StepRefusal) → Type 0 = λ a. Inv (a .engine) (note e (movedEvent e i (a .answer)) j) in
     cond-both (ltb i (length (e .cores))) (cond (leb (length (e .entries) + wanted (e .token) i) 1024) (stepped e i) (stays e (Err RecordFull))) (stays e (Err NoSuchCore)) P
     (λ b. cond-both (leb (length (e .entries) + wanted (e .token) i) 1024) (stepped e i) (stays e (Err RecordFull)) P
-      (λ _. stepped-kept e j h i (ltb-true i (length (e .cores)) b))
-      (λ _. h))
+    (λ _. stepped-kept e j h i (ltb-true i (length (e .cores)) b))
+    (λ _. h))
     (λ _. h)
 
 -- the core that is next is no matter
 advanced-kept : (r : Result Answer StepRefusal) (e : Engine) (j : Journal) → Inv e j → Inv (advanced r e) j
 advanced-kept (Ok a) e j h = record {
-    now = h .now; ran = h .ran; settled = h .settled; size = h .size; good = h .good; booked = h .booked; shared = next-shared (e .token) (h .shared); held = next-held (e .token) (h .held) }
+  now = h .now;
+  ran = h .ran;
+  settled = h .settled;
+  size = h .size;
+  good = h .good;
+  booked = h .booked;
+  shared = next-shared (e .token) (h .shared);
+  held = next-held (e .token) (h .held);
+}
   where
     next-shared : (t : Token) → Shared t e j (h .now) → Shared t (advanced (Ok a) e) j (h .now)
     next-shared Free w = w
     next-shared (CoreHas k) w = w
     next-shared Host w = w
+
     next-held : (t : Token) → HeldIs t e j → HeldIs t (advanced (Ok a) e) j
     next-held Free w = w
     next-held (CoreHas k) w = w
@@ -83,14 +92,15 @@ turn-kept e j h = advanced-kept (step e (e .next) .answer) (step e (e .next) .en
 -- clear
 clear-kept : (t : Token) (e : Engine) (j : Journal) → e .token ≡ t → Inv e j → Inv (clearIf t e .engine) (note e (clearEvent (clearIf t e .answer)) j)
 clear-kept Free e j f h = record {
-    now = startOf e;
-    ran = refl;
-    settled = refl;
-    size = refl;
-    good = h .good;
-    booked = h .booked;
-    shared = subst (λ t. Shared t (emptied e) (note e (clearEvent (Ok tt)) j) (startOf e)) (sym f) (refl, sym (append-nil (e .outlet .waiting)));
-    held = subst (λ t. HeldIs t (emptied e) (note e (clearEvent (Ok tt)) j)) (sym f) tt }
+  now = startOf e;
+  ran = refl;
+  settled = refl;
+  size = refl;
+  good = h .good;
+  booked = h .booked;
+  shared = subst (λ t. Shared t (emptied e) (note e (clearEvent (Ok tt)) j) (startOf e)) (sym f) (refl, sym (append-nil (e .outlet .waiting)));
+  held = subst (λ t. HeldIs t (emptied e) (note e (clearEvent (Ok tt)) j)) (sym f) tt;
+}
 clear-kept (CoreHas k) e j f h = h
 clear-kept Host e j f h = h
 
@@ -113,7 +123,8 @@ hold-kept Free e j f h =
       good = token-good e j h Host (λ k q. free-core k (sym f ∙ q));
       booked = h .booked;
       shared = w;
-      held = (h .now, h .ran, w .0) }
+      held = (h .now, h .ran, w .0);
+    }
 hold-kept (CoreHas k) e j f h = h
 hold-kept Host e j f h = h
 
@@ -122,34 +133,38 @@ give-back-kept : (t : Token) (e : Engine) (j : Journal) → e .token ≡ t → I
 give-back-kept Free e j f h = h
 give-back-kept (CoreHas k) e j f h = h
 give-back-kept Host e j f h = record {
-    now = h .now;
-    ran = h .ran;
-    settled = h .settled;
-    size = h .size;
-    good = token-good e j h Free (λ k q. host-core k (sym f ∙ q));
-    booked = h .booked;
-    shared = subst (λ t. Shared t e j (h .now)) f (h .shared);
-    held = tt }
+  now = h .now;
+  ran = h .ran;
+  settled = h .settled;
+  size = h .size;
+  good = token-good e j h Free (λ k q. host-core k (sym f ∙ q));
+  booked = h .booked;
+  shared = subst (λ t. Shared t e j (h .now)) f (h .shared);
+  held = tt;
+}
 
 -- take
 take-kept : (ws : List SentEntry) (e : Engine) (j : Journal) → e .outlet .waiting ≡ ws → Inv e j → Inv (takeFrom ws e .engine) (note e (takeEvent (takeFrom ws e .answer)) j)
 take-kept [] e j w h = h
 take-kept (x ∷ xs) e j w h = record {
-    now = h .now;
-    ran = h .ran;
-    settled = h .settled;
-    size = h .size;
-    good = h .good;
-    booked = h .booked;
-    shared = taken-shared (e .token) (h .shared);
-    held = taken-held (e .token) (h .held) }
+  now = h .now;
+  ran = h .ran;
+  settled = h .settled;
+  size = h .size;
+  good = h .good;
+  booked = h .booked;
+  shared = taken-shared (e .token) (h .shared);
+  held = taken-held (e .token) (h .held);
+}
   where
     moved : (s : List SentEntry) → SentIs e j s → (j .taken ++ x ∷ []) ++ xs ≡ j .waiting ++ s
     moved s p = append-assoc (j .taken) (x ∷ []) xs ∙ ap (λ l. j .taken ++ l) (sym w) ∙ p
+
     taken-shared : (t : Token) → Shared t e j (h .now) → Shared t (takeFrom (x ∷ xs) e .engine) (note e (takeEvent (Ok x)) j) (h .now)
     taken-shared Free p = (p .0, moved (h .now .sent) (p .1))
     taken-shared (CoreHas k) p = (p .0, p .1, moved (p .0) (p .2))
     taken-shared Host p = (p .0, moved (h .now .sent) (p .1))
+
     taken-held : (t : Token) → HeldIs t e j → HeldIs t (takeFrom (x ∷ xs) e .engine) (note e (takeEvent (Ok x)) j)
     taken-held Free p = tt
     taken-held (CoreHas k) p = tt
@@ -182,14 +197,15 @@ new-cores (Ok u) (x ∷ xs) program m (suc k) i = new-cores (Ok u) xs program m 
 -- a new engine
 made : (s : Settings) (m : List ℕ) (o : Outlet) → Inv (make s m o) (newJournal (make s m o))
 made s m o = record {
-    now = startOf (make s m o);
-    ran = refl;
-    settled = refl;
-    size = refl;
-    good = λ k. new-cores (check s (length m)) (s .places) (s .program) m k k .0;
-    booked = λ k. new-cores (check s (length m)) (s .places) (s .program) m k k .1;
-    shared = (refl, sym (append-nil (o .waiting)));
-    held = tt }
+  now = startOf (make s m o);
+  ran = refl;
+  settled = refl;
+  size = refl;
+  good = λ k. new-cores (check s (length m)) (s .places) (s .program) m k k .0;
+  booked = λ k. new-cores (check s (length m)) (s .places) (s .program) m k k .1;
+  shared = (refl, sym (append-nil (o .waiting)));
+  held = tt;
+}
 
 -- the invariant holds of every run
 pub always : (s : Settings) (m : List ℕ) (o : Outlet) (cs : List Call) → Inv (history s m o cs .engine) (history s m o cs .journal)

@@ -49,4 +49,4 @@ unfolding innerAt
 decoded program len p depth count r d =
     subst (λ x. Touches x len (touch (asks program p))) d
     (cond-both (ltb count 4096) (inner len p depth (asks program p)) (InnerFaults TooLong) (λ x. Touches x len (touch (asks program p)))
-      (λ t. inner-touches len p depth (asks program p)) (λ t. tt))
+    (λ t. inner-touches len p depth (asks program p)) (λ t. tt))

@@ -30,8 +30,8 @@ scene p m s = record { place = p; memory = m; sent = s }
 pub record Follows (program : List Instruction) (m : List ℕ) (c : Core) : Type 0 where
   pub fit : Fit m (c .lines)
   pub alone :
-    (m′ : List ℕ) (s : List SentEntry) → length m′ ≡ length m → Agree (c .lines) m m′ →
-    run program (scene (c .saved) m′ s) (c .count) ≡ Inside (c .depth) (scene (c .place) (overlay (c .lines) m′) s)
+      (m′ : List ℕ) (s : List SentEntry) → length m′ ≡ length m → Agree (c .lines) m m′ →
+      run program (scene (c .saved) m′ s) (c .count) ≡ Inside (c .depth) (scene (c .place) (overlay (c .lines) m′) s)
 
 -- what holds of a core, by its state
 abbrev pub Good : State → List Instruction → List ℕ → Token → ℕ → Core → Type 0

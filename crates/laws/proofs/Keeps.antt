@@ -29,8 +29,9 @@ use Rattle.laws.proofs.Invariant.{scene, Follows, Good, Booked, Tracks, Holdin
 -- a write where a block has no tag does not disturb it
 follows-write : (program : List Instruction) (m : List ℕ) (c : Core) (a w : ℕ) → Follows program m c → tagged (c .lines) a ≡ false → Follows program (set m a w) c
 follows-write program m c a w f h = record {
-    fit = fit-set (c .lines) m a w (f .fit) h;
-    alone = λ m′ s n agree. f .alone m′ s (n ∙ length-set m a w) (λ b t. agree b t ∙ getD-set-other m a b w 0 (apart b t)) }
+  fit = fit-set (c .lines) m a w (f .fit) h;
+  alone = λ m′ s n agree. f .alone m′ s (n ∙ length-set m a w) (λ b t. agree b t ∙ getD-set-other m a b w 0 (apart b t));
+}
   where
     apart : (b : ℕ) → tagged (c .lines) b ≡ true → b ≢ a
     apart b t e = false≢true (sym h ∙ rw e at t)
@@ -50,14 +51,17 @@ pub other-write :
 other-write Bypass program m t t′ k c b a w e apart g p = rw e (tt, p)
 other-write Transaction program m t t′ k c b a w e apart g p =
     elim (cases-bool (tagged (c .lines) a)) [
-      inl q ↦ rw q (tt, (p .isOpen, or-right (b .hit) (has a (b .taken)) (p .taken a ∙ q)))
-    | inr q ↦ rw q
-        ( good-in Transaction program (set m a w) t′ k c e (follows-write program m c a w g q)
-        , booked-in Transaction (otherMove (Wrote a w) b) c e (record {
-            isOpen = p .isOpen;
-            hit = or-from (b .hit) (has a (b .taken)) (p .hit) (p .taken a ∙ q);
-            taken = p .taken;
-            touched = p .touched }) ) ]
+      | inl q ↦ rw q (tt, (p .isOpen, or-right (b .hit) (has a (b .taken)) (p .taken a ∙ q)))
+      | inr q ↦ rw q (
+        good-in Transaction program (set m a w) t′ k c e (follows-write program m c a w g q),
+        booked-in Transaction (otherMove (Wrote a w) b) c e (record {
+          isOpen = p .isOpen;
+          hit = or-from (b .hit) (has a (b .taken)) (p .hit) (p .taken a ∙ q);
+          taken = p .taken;
+          touched = p .touched;
+        }),
+      )
+    ]
 other-write Commit program m t t′ k c b a w e apart g p = absurd (apart g)
 other-write Abort program m t t′ k c b a w e apart g p = rw e (tt, (p .0, or-left (b .hit) (has a (b .taken)) (p .1)))
 other-write EarlyFlush program m t t′ k c b a w e apart g p = absurd (apart g)
@@ -155,23 +159,26 @@ pub kept :
     HeldIs (o .token) (change e i o) (note e (Moved i ask (o .answer) (o .effect)) j) →
     InvAfter e j i ask o
 kept e j h i ask o b p shared held = record {
-    now = p .machine;
-    ran = p .ran;
-    settled = p .settled ∙ ap (λ l. set l i (settle (o .core))) (h .settled) ∙ sym (settle-change e i o);
-    size = p .size ∙ sym (length-after (o .effect) (e .memory));
-    good = λ k. elim (cases-eq k i) [
-        inl q ↦ rw (q, core-own e i o b) (p .good)
-      | inr q ↦ rw (core-other e i k o q) (others k q .0) ];
-    booked = λ k. elim (cases-eq k i) [
-        inl q ↦ rw (q, core-own e i o b, eq-eqb i i refl) (p .booked)
-      | inr q ↦ rw (core-other e i k o q, ne-eqb k i q) (others k q .1) ];
-    shared = shared;
-    held = held }
+  now = p .machine;
+  ran = p .ran;
+  settled = p .settled ∙ ap (λ l. set l i (settle (o .core))) (h .settled) ∙ sym (settle-change e i o);
+  size = p .size ∙ sym (length-after (o .effect) (e .memory));
+  good = λ k. elim (cases-eq k i) [
+    | inl q ↦ rw (q, core-own e i o b) (p .good)
+    | inr q ↦ rw (core-other e i k o q) (others k q .0)
+  ];
+  booked = λ k. elim (cases-eq k i) [
+    | inl q ↦ rw (q, core-own e i o b, eq-eqb i i refl) (p .booked)
+    | inr q ↦ rw (core-other e i k o q, ne-eqb k i q) (others k q .1)
+  ];
+  shared = shared;
+  held = held;
+}
   where
     others :
-      (k : ℕ) → k ≢ i →
-      Good (struck (o .effect) (coreAt e k) .state) (e .program) (memoryAfter (o .effect) (e .memory)) (o .token) k (struck (o .effect) (coreAt e k))
-      × Booked (struck (o .effect) (coreAt e k) .state) (otherMove (o .effect) (j .books k)) (struck (o .effect) (coreAt e k))
+        (k : ℕ) → k ≢ i →
+        Good (struck (o .effect) (coreAt e k) .state) (e .program) (memoryAfter (o .effect) (e .memory)) (o .token) k (struck (o .effect) (coreAt e k))
+        × Booked (struck (o .effect) (coreAt e k) .state) (otherMove (o .effect) (j .books k)) (struck (o .effect) (coreAt e k))
     others k q = other (o .effect) (e .program) (e .memory) (e .token) (o .token) i k (coreAt e k) (j .books k) q (p .quiet) (h .good k) (h .booked k)
 
 -- the token is in one place

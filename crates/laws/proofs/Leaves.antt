@@ -48,7 +48,8 @@ only-core e j h i b ask c′ answer not-i s g k =
       settled = same-cores e j h i c′ s;
       size = h .size;
       good = g;
-      booked = k })
+      booked = k;
+    })
     refl refl not-i refl refl
 
 -- the token stays where it is when a core finishes that has it not
@@ -64,8 +65,8 @@ pub record UnitIs (e : Engine) (j : Journal) (h : Inv e j) (i : ℕ) (mark : Mar
   pub alive : settledStopped (coreAt e i .state) ≡ false
   pub machine : Machine
   pub is :
-    unit (e .program) (h .now) i mark n (run (e .program) (scene (settledPlace (coreAt e i .state) (coreAt e i)) (h .now .memory) (h .now .sent)) n)
-    ≡ some machine
+      unit (e .program) (h .now) i mark n (run (e .program) (scene (settledPlace (coreAt e i .state) (coreAt e i)) (h .now .memory) (h .now .sent)) n)
+      ≡ some machine
   pub cores : machine .cores ≡ set (h .now .cores) i (settle c′)
 
 -- a core that has not the token finishes a unit that writes and sends nothing
@@ -84,7 +85,8 @@ finish-aside e j h i b ask c′ mark n answer not-i u m s g k =
       settled = u .cores;
       size = ap length m ∙ h .size;
       good = g;
-      booked = k })
+      booked = k;
+    })
     refl f not-i m s
 
 -- a core finishes, and the token is free then
@@ -105,7 +107,8 @@ finish-free e j h i b ask c′ x mark n answer q f u l m s g k =
       settled = u .cores;
       size = l;
       good = g;
-      booked = k })
+      booked = k;
+    })
     (subst (λ t. Own t e j i o (u .machine)) (sym f) (m, s))
 
 -- a core that found the token free takes it
@@ -124,7 +127,8 @@ take-token e j h i b ask c′ answer f s w v g k =
       settled = same-cores e j h i c′ s;
       size = h .size;
       good = g;
-      booked = k })
+      booked = k;
+    })
     (refl, (h .now .sent, w, v))
 
 -- the core that has the token goes on with it
@@ -144,5 +148,6 @@ go-on e j h i b ask c′ x answer f s l w v g k =
       settled = same-cores e j h i c′ s;
       size = h .size;
       good = g;
-      booked = k })
+      booked = k;
+    })
     (subst (λ t. Own t e j i o (h .now)) (sym f) (refl, (l, w, v)))

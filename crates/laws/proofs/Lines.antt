@@ -67,8 +67,9 @@ overlay-set (l ∷ ls) m a w h =
     let p = or-parts (eqb (l .address) a) (holds ls a) h in
     let ne = eqb-false (l .address) a (p .0) in
     elim (cases-bool (l .dirty)) [
-      inl t ↦ rw (t, set-comm m a (l .address) w (l .value) (λ e. ne (sym e))) (overlay-set ls (set m (l .address) (l .value)) a w (p .1))
-    | inr t ↦ rw t (overlay-set ls m a w (p .1)) ]
+      | inl t ↦ rw (t, set-comm m a (l .address) w (l .value) (λ e. ne (sym e))) (overlay-set ls (set m (l .address) (l .value)) a w (p .1))
+      | inr t ↦ rw t (overlay-set ls m a w (p .1))
+    ]
 
 -- a line fits a memory: it lies inside, and unless it is dirty it is tagged and has the memory's word
 pub record Fits (m : List ℕ) (l : Line) : Type 0 where
@@ -93,12 +94,13 @@ untagged (l ∷ ls) a h =
 
 fits-set : (m : List ℕ) (l : Line) (a w : ℕ) → Fits m l → (eqb (l .address) a && l .tag) ≡ false → Fits (set m a w) l
 fits-set m l a w f h = record {
-    inside = rw (length-set m a w) (f .inside);
-    clean = λ d.
+  inside = rw (length-set m a w) (f .inside);
+  clean = λ d.
       let tag = f .clean d .0 in
       let h′ : eqb (l .address) a ≡ false = grind (arith, tells) in
       let ne = eqb-false (l .address) a h′ in
-      (tag, getD-set-other m a (l .address) w 0 ne ∙ f .clean d .1) }
+      (tag, getD-set-other m a (l .address) w 0 ne ∙ f .clean d .1);
+}
 
 -- a write where no line is tagged leaves the lines fitting
 pub fit-set : (ls : List Line) (m : List ℕ) (a w : ℕ) → Fit m ls → tagged ls a ≡ false → Fit (set m a w) ls
@@ -110,8 +112,9 @@ fit-set (l ∷ ls) m a w f h =
 fit-laid : (l : Line) (ls : List Line) (m : List ℕ) → Fit m (l ∷ ls) → Fit (laid l m) ls
 fit-laid l ls m f =
     elim (cases-bool (l .dirty)) [
-      inl d ↦ rw d (fit-set ls m (l .address) (l .value) (f .2) (untagged ls (l .address) (f .1)))
-    | inr d ↦ rw d (f .2) ]
+      | inl d ↦ rw d (fit-set ls m (l .address) (l .value) (f .2) (untagged ls (l .address) (f .1)))
+      | inr d ↦ rw d (f .2)
+    ]
 
 -- a load of a line's word
 pub getD-overlay : (ls : List Line) (m : List ℕ) (a : ℕ) → Fit m ls → holds ls a ≡ true → getD (overlay ls m) a 0 ≡ valueAt ls a
@@ -119,14 +122,16 @@ getD-overlay [] m a f h = absurd (false≢true h)
 getD-overlay (l ∷ ls) m a f h =
     let ih = getD-overlay ls (laid l m) a (fit-laid l ls m f) in
     elim (cases-bool (eqb (l .address) a)) [
-      inl t ↦
-        let same = eqb-true (l .address) a t in
-        let free : holds ls a ≡ false = rw same at (f .1) in
-        rw (t, getD-overlay-other ls (laid l m) a free)
-        (elim (cases-bool (l .dirty)) [
-          inl d ↦ rw (d, same) (getD-set-same m a (l .value) 0 (rw same at (f .0 .inside)))
-        | inr d ↦ rw d (rw same at (f .0 .clean d .1)) ])
-    | inr t ↦ rw t (ih (rw t at h)) ]
+      | inl t ↦
+          let same = eqb-true (l .address) a t in
+          let free : holds ls a ≡ false = rw same at (f .1) in
+          rw (t, getD-overlay-other ls (laid l m) a free)
+          (elim (cases-bool (l .dirty)) [
+            | inl d ↦ rw (d, same) (getD-set-same m a (l .value) 0 (rw same at (f .0 .inside)))
+            | inr d ↦ rw d (rw same at (f .0 .clean d .1))
+          ])
+      | inr t ↦ rw t (ih (rw t at h))
+    ]
 
 -- a store to a line
 pub overlay-storeAt :
@@ -135,14 +140,16 @@ overlay-storeAt [] m a w f h = absurd (false≢true h)
 overlay-storeAt (l ∷ ls) m a w f h =
     let ih = overlay-storeAt ls (laid l m) a w (fit-laid l ls m f) in
     elim (cases-bool (eqb (l .address) a)) [
-      inl t ↦
-        let same = eqb-true (l .address) a t in
-        let free : holds ls a ≡ false = rw same at (f .1) in
-        rw (t, same, overlay-set ls m a w free)
-        (elim (cases-bool (l .dirty)) [
-          inl d ↦ rw (d, overlay-set ls m a (l .value) free) (sym (set-set (overlay ls m) a (l .value) w))
-        | inr d ↦ rw d refl ])
-    | inr t ↦ rw t (ih (rw t at h)) ]
+      | inl t ↦
+          let same = eqb-true (l .address) a t in
+          let free : holds ls a ≡ false = rw same at (f .1) in
+          rw (t, same, overlay-set ls m a w free)
+          (elim (cases-bool (l .dirty)) [
+            | inl d ↦ rw (d, overlay-set ls m a (l .value) free) (sym (set-set (overlay ls m) a (l .value) w))
+            | inr d ↦ rw d refl
+          ])
+      | inr t ↦ rw t (ih (rw t at h))
+    ]
 
 -- where the lines are, and which are tagged, once a line is added or changed
 
@@ -174,28 +181,32 @@ pub fit-append : (ls : List Line) (l : Line) (m : List ℕ) → Fit m ls → Fit
 fit-append [] l m f g h = (g, refl, tt)
 fit-append (k ∷ ls) l m f g h =
     let p = or-parts (eqb (k .address) (l .address)) (holds ls (l .address)) h in
-    let ne = eqb-false (k .address) (l .address) (p .0) in
-    ( f .0
-    , holds-append ls l (k .address) ∙ or-from (eqb (l .address) (k .address)) (holds ls (k .address)) (ne-eqb (l .address) (k .address) (λ e. ne (sym e))) (f .1)
-    , fit-append ls l m (f .2) g (p .1) )
+    let ne = eqb-false (k .address) (l .address) (p .0) in (
+      f .0,
+      holds-append ls l (k .address) ∙ or-from (eqb (l .address) (k .address)) (holds ls (k .address)) (ne-eqb (l .address) (k .address) (λ e. ne (sym e))) (f .1),
+      fit-append ls l m (f .2) g (p .1),
+    )
 
 pub fit-storeAt : (ls : List Line) (a w : ℕ) (m : List ℕ) → Fit m ls → Fit m (storeAt ls a w)
 fit-storeAt [] a w m f = tt
 fit-storeAt (l ∷ ls) a w m f =
     let ih = fit-storeAt ls a w m (f .2) in
     elim (cases-bool (eqb (l .address) a)) [
-      inl t ↦ rw t (record { inside = f .0 .inside; clean = λ d. absurd (true≢false d) }, f .1, f .2)
-    | inr t ↦ rw t (f .0, holds-storeAt ls a w (l .address) ∙ f .1, ih) ]
+      | inl t ↦ rw t (record { inside = f .0 .inside; clean = λ d. absurd (true≢false d) }, f .1, f .2)
+      | inr t ↦ rw t (f .0, holds-storeAt ls a w (l .address) ∙ f .1, ih)
+    ]
 
 -- lines that fit a memory fit one that agrees with it
 fits-agree : (m m′ : List ℕ) (l : Line) → Fits m l → length m′ ≡ length m → (l .tag ≡ true → getD m′ (l .address) 0 ≡ getD m (l .address) 0) → Fits m′ l
 fits-agree m m′ l f n h = record {
-    inside = rw n (f .inside);
-    clean = λ d. (f .clean d .0, h (f .clean d .0) ∙ f .clean d .1) }
+  inside = rw n (f .inside);
+  clean = λ d. (f .clean d .0, h (f .clean d .0) ∙ f .clean d .1);
+}
 
 pub fit-agree : (ls : List Line) (m m′ : List ℕ) → Fit m ls → length m′ ≡ length m → Agree ls m m′ → Fit m′ ls
 fit-agree [] m m′ f n h = tt
-fit-agree (l ∷ ls) m m′ f n h =
-    ( fits-agree m m′ l (f .0) n (λ t. h (l .address) (rw (eq-eqb (l .address) (l .address) refl, t) refl))
-    , f .1
-    , fit-agree ls m m′ (f .2) n (λ a t. h a (or-right (eqb (l .address) a && l .tag) (tagged ls a) t)) )
+fit-agree (l ∷ ls) m m′ f n h = (
+  fits-agree m m′ l (f .0) n (λ t. h (l .address) (rw (eq-eqb (l .address) (l .address) refl, t) refl)),
+  f .1,
+  fit-agree ls m m′ (f .2) n (λ a t. h a (or-right (eqb (l .address) a && l .tag) (tagged ls a) t)),
+)

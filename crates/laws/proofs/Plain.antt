@@ -74,73 +74,73 @@ module _ (e : Engine) (j : Journal) (h : Inv e j) (i : ℕ) (b : i < length (e .
 
   -- a plain instruction that neither reads, writes nor sends
   plain-aside :
-    (s : State) (p : Place) → Good s (e .program) (e .memory) (freed (e .token) i) i (resting s p (coreAt e i .saved)) →
-    Booked s (ownMove (touch ask) Done (j .books i)) (resting s p (coreAt e i .saved)) →
-    (u : UnitIs e j h i Completed 1 (resting s p (coreAt e i .saved))) → u .machine .memory ≡ h .now .memory → u .machine .sent ≡ h .now .sent →
-    InvAfter e j i ask (plain (viewOf e i) (coreAt e i) s p Nothing)
+      (s : State) (p : Place) → Good s (e .program) (e .memory) (freed (e .token) i) i (resting s p (coreAt e i .saved)) →
+      Booked s (ownMove (touch ask) Done (j .books i)) (resting s p (coreAt e i .saved)) →
+      (u : UnitIs e j h i Completed 1 (resting s p (coreAt e i .saved))) → u .machine .memory ≡ h .now .memory → u .machine .sent ≡ h .now .sent →
+      InvAfter e j i ask (plain (viewOf e i) (coreAt e i) s p Nothing)
   plain-aside s p g k u m n = finish-aside e j h i b ask (resting s p (coreAt e i .saved)) Completed 1 Done not-i u m n g k
 
   -- a plain instruction with the token free
   plain-free :
-    (p : Place) (x : Effect) → e .token ≡ Free →
-    (u : UnitIs e j h i Completed 1 (resting Bypass p (coreAt e i .saved))) → u .machine .memory ≡ memoryAfter x (e .memory) → length (u .machine .memory) ≡ length (e .memory) →
-    SentIs (change e i (plain (viewOf e i) (coreAt e i) Bypass p x)) j (u .machine .sent) →
-    InvAfter e j i ask (plain (viewOf e i) (coreAt e i) Bypass p x)
+      (p : Place) (x : Effect) → e .token ≡ Free →
+      (u : UnitIs e j h i Completed 1 (resting Bypass p (coreAt e i .saved))) → u .machine .memory ≡ memoryAfter x (e .memory) → length (u .machine .memory) ≡ length (e .memory) →
+      SentIs (change e i (plain (viewOf e i) (coreAt e i) Bypass p x)) j (u .machine .sent) →
+      InvAfter e j i ask (plain (viewOf e i) (coreAt e i) Bypass p x)
   plain-free p x f u m l n =
-    finish-free e j h i b ask (resting Bypass p (coreAt e i .saved)) x Completed 1 Done
-    (free-quiet x (e .token) (freed (e .token) i) i f) (rw f refl) u l m n tt refl
+      finish-free e j h i b ask (resting Bypass p (coreAt e i .saved)) x Completed 1 Done
+      (free-quiet x (e .token) (freed (e .token) i) i f) (rw f refl) u l m n tt refl
 
   pub bypass : (o : Outer) → outerAt (e .program) (length (e .memory)) (coreAt e i .place) ≡ o → InvAfter e j i ask (inBypass (viewOf e i) (coreAt e i) o)
   bypass (OuterFaults f) d =
-    let c′ = resting Stopped (coreAt e i .place) (coreAt e i .saved) in
-    finish-aside e j h i b ask c′ Discarded 0 (Faulted f (coreAt e i .place .pc)) not-i
-    (record { alive = rw st refl; machine = machineWith (h .now) i c′ (h .now .memory) (h .now .sent); is = rw (st, h .size, d) refl; cores = refl })
-    refl refl tt refl
+      let c′ = resting Stopped (coreAt e i .place) (coreAt e i .saved) in
+      finish-aside e j h i b ask c′ Discarded 0 (Faulted f (coreAt e i .place .pc)) not-i
+      (record { alive = rw st refl; machine = machineWith (h .now) i c′ (h .now .memory) (h .now .sent); is = rw (st, h .size, d) refl; cores = refl })
+      refl refl tt refl
   bypass (OuterMoves p) d =
-    let c′ = resting Bypass p (coreAt e i .saved) in
-    plain-aside Bypass p tt refl
-    (record { alive = rw st refl; machine = machineWith (h .now) i c′ (h .now .memory) (h .now .sent); is = rw (st, h .size, d) refl; cores = refl })
-    refl refl
+      let c′ = resting Bypass p (coreAt e i .saved) in
+      plain-aside Bypass p tt refl
+      (record { alive = rw st refl; machine = machineWith (h .now) i c′ (h .now .memory) (h .now .sent); is = rw (st, h .size, d) refl; cores = refl })
+      refl refl
   bypass (OuterLoads a k) d =
-    let p = onward (coreAt e i .place) (k (getD (e .memory) a 0)) in
-    let c′ = resting Bypass p (coreAt e i .saved) in
-    if-free (e .token) e j i ask (plain (viewOf e i) (coreAt e i) Bypass p Nothing) (becomes (viewOf e i) (coreAt e i) Waiting) refl
-    (λ f.
+      let p = onward (coreAt e i .place) (k (getD (e .memory) a 0)) in
+      let c′ = resting Bypass p (coreAt e i .saved) in
+      if-free (e .token) e j i ask (plain (viewOf e i) (coreAt e i) Bypass p Nothing) (becomes (viewOf e i) (coreAt e i) Waiting) refl
+      (λ f.
       let w = when-free e j h f in
       plain-free p Nothing f
       (record { alive = rw st refl; machine = machineWith (h .now) i c′ (e .memory) (h .now .sent); is = rw (st, w .0, d) refl; cores = refl })
       refl refl (w .1))
-    (waits e j h i b ask not-i)
+      (waits e j h i b ask not-i)
   bypass (OuterStores a v) d =
-    let p = past (coreAt e i .place) in
-    let c′ = resting Bypass p (coreAt e i .saved) in
-    if-free (e .token) e j i ask (plain (viewOf e i) (coreAt e i) Bypass p (Wrote a v)) (becomes (viewOf e i) (coreAt e i) Waiting) refl
-    (λ f.
+      let p = past (coreAt e i .place) in
+      let c′ = resting Bypass p (coreAt e i .saved) in
+      if-free (e .token) e j i ask (plain (viewOf e i) (coreAt e i) Bypass p (Wrote a v)) (becomes (viewOf e i) (coreAt e i) Waiting) refl
+      (λ f.
       let w = when-free e j h f in
       plain-free p (Wrote a v) f
       (record { alive = rw st refl; machine = machineWith (h .now) i c′ (set (e .memory) a v) (h .now .sent); is = rw (st, w .0, d) refl; cores = refl })
       refl (length-set (e .memory) a v) (w .1))
-    (waits e j h i b ask not-i)
+      (waits e j h i b ask not-i)
   bypass (OuterSends y) d =
-    let p = past (coreAt e i .place) in
-    let c′ = resting Bypass p (coreAt e i .saved) in
-    if-free (e .token) e j i ask (plainSend (viewOf e i) (coreAt e i) (e .outlet .room) (Sent y)) (becomes (viewOf e i) (coreAt e i) Waiting) refl
-    (λ f.
+      let p = past (coreAt e i .place) in
+      let c′ = resting Bypass p (coreAt e i .saved) in
+      if-free (e .token) e j i ask (plainSend (viewOf e i) (coreAt e i) (e .outlet .room) (Sent y)) (becomes (viewOf e i) (coreAt e i) Waiting) refl
+      (λ f.
       let w = when-free e j h f in
       cond-both (ltb 0 (e .outlet .room)) (plain (viewOf e i) (coreAt e i) Bypass p (Sent y)) (becomes (viewOf e i) (coreAt e i) Full) (InvAfter e j i ask)
       (λ _. plain-free p (Sent y) f
-        (record { alive = rw st refl; machine = machineWith (h .now) i c′ (e .memory) (h .now .sent ++ y ∷ []); is = rw (st, w .0, d) refl; cores = refl })
-        refl refl (one-more-sent (j .taken) (e .outlet .waiting) (j .waiting) (h .now .sent) y (w .1)))
+      (record { alive = rw st refl; machine = machineWith (h .now) i c′ (e .memory) (h .now .sent ++ y ∷ []); is = rw (st, w .0, d) refl; cores = refl })
+      refl refl (one-more-sent (j .taken) (e .outlet .waiting) (j .waiting) (h .now .sent) y (w .1)))
       (λ _. only-core e j h i b ask (coreAt e i) Full not-i refl (h .good i) (h .booked i)))
-    (waits e j h i b ask not-i)
+      (waits e j h i b ask not-i)
   bypass Opens d =
-    only-core e j h i b ask
-    (record { state = Transaction; place = past (coreAt e i .place); saved = coreAt e i .place; depth = 1; count = 1; lines = [] })
-    Running not-i (rw st refl)
-    (record { fit = tt; alone = λ m′ s n agree. rw (n, d) refl })
-    (rw (booked-bypass e j h i st) (record { isOpen = refl; hit = refl; taken = λ a. refl; touched = λ a. refl }))
+      only-core e j h i b ask
+      (record { state = Transaction; place = past (coreAt e i .place); saved = coreAt e i .place; depth = 1; count = 1; lines = [] })
+      Running not-i (rw st refl)
+      (record { fit = tt; alone = λ m′ s n agree. rw (n, d) refl })
+      (rw (booked-bypass e j h i st) (record { isOpen = refl; hit = refl; taken = λ a. refl; touched = λ a. refl }))
   bypass Stops d =
-    let c′ = resting Stopped (past (coreAt e i .place)) (coreAt e i .saved) in
-    plain-aside Stopped (past (coreAt e i .place)) tt refl
-    (record { alive = rw st refl; machine = machineWith (h .now) i c′ (h .now .memory) (h .now .sent); is = rw (st, h .size, d) refl; cores = refl })
-    refl refl
+      let c′ = resting Stopped (past (coreAt e i .place)) (coreAt e i .saved) in
+      plain-aside Stopped (past (coreAt e i .place)) tt refl
+      (record { alive = rw st refl; machine = machineWith (h .now) i c′ (h .now .memory) (h .now .sent); is = rw (st, h .size, d) refl; cores = refl })
+      refl refl

@@ -23,8 +23,8 @@ runs-append program [] t m = go (turn program t m)
 runs-append program (s ∷ ts) t m = go (λ x. runs-append program ts t x) (turn program s m)
   where
     go :
-      ((x : Machine) → runs program (ts ++ t ∷ []) x ≡ andThen (runs program ts x) (turn program t)) →
-      (o : Option Machine) → andThen o (runs program (ts ++ t ∷ [])) ≡ andThen (andThen o (runs program ts)) (turn program t)
+        ((x : Machine) → runs program (ts ++ t ∷ []) x ≡ andThen (runs program ts x) (turn program t)) →
+        (o : Option Machine) → andThen o (runs program (ts ++ t ∷ [])) ≡ andThen (andThen o (runs program ts)) (turn program t)
     go ih none = refl
     go ih (some x) = ih x
 

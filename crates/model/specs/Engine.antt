@@ -104,14 +104,15 @@ newCores (Err _) places = []
 -- a new engine
 abbrev pub make : Settings → List ℕ → Outlet → Engine
 make s m o = record {
-    program = s .program;
-    capacity = s .lines;
-    memory = m;
-    outlet = o;
-    cores = newCores (check s (length m)) (s .places);
-    token = Free;
-    entries = [];
-    next = 0 }
+  program = s .program;
+  capacity = s .lines;
+  memory = m;
+  outlet = o;
+  cores = newCores (check s (length m)) (s .places);
+  token = Free;
+  entries = [];
+  next = 0;
+}
 
 -- what stands for a core that does not exist
 abbrev pub blank : Core
@@ -161,14 +162,15 @@ struck (Sent x) c = c
 -- the one way in which a step changes an engine
 abbrev pub change : Engine → ℕ → Outcome → Engine
 change e i o = record {
-    program = e .program;
-    capacity = e .capacity;
-    memory = memoryAfter (o .effect) (e .memory);
-    outlet = outletAfter (o .effect) (e .outlet);
-    cores = set (map (struck (o .effect)) (e .cores)) i (o .core);
-    token = o .token;
-    entries = e .entries ++ o .entries;
-    next = e .next }
+  program = e .program;
+  capacity = e .capacity;
+  memory = memoryAfter (o .effect) (e .memory);
+  outlet = outletAfter (o .effect) (e .outlet);
+  cores = set (map (struck (o .effect)) (e .cores)) i (o .core);
+  token = o .token;
+  entries = e .entries ++ o .entries;
+  next = e .next;
+}
 
 -- the engine after a call, and what the call answers
 pub record After (A : Type 0) : Type 0 where
@@ -209,14 +211,15 @@ following i n = cond (ltb (suc i) n) (suc i) 0
 -- the next core is next, unless the turn was refused
 abbrev pub advanced : Result Answer StepRefusal → Engine → Engine
 advanced (Ok a) e = record {
-    program = e .program;
-    capacity = e .capacity;
-    memory = e .memory;
-    outlet = e .outlet;
-    cores = e .cores;
-    token = e .token;
-    entries = e .entries;
-    next = following (e .next) (length (e .cores)) }
+  program = e .program;
+  capacity = e .capacity;
+  memory = e .memory;
+  outlet = e .outlet;
+  cores = e .cores;
+  token = e .token;
+  entries = e .entries;
+  next = following (e .next) (length (e .cores));
+}
 advanced (Err r) e = e
 
 -- the core whose turn it is moves
@@ -226,14 +229,15 @@ turn e = record { engine = advanced (step e (e .next) .answer) (step e (e .next)
 -- the engine with an empty record
 abbrev pub emptied : Engine → Engine
 emptied e = record {
-    program = e .program;
-    capacity = e .capacity;
-    memory = e .memory;
-    outlet = e .outlet;
-    cores = e .cores;
-    token = e .token;
-    entries = [];
-    next = e .next }
+  program = e .program;
+  capacity = e .capacity;
+  memory = e .memory;
+  outlet = e .outlet;
+  cores = e .cores;
+  token = e .token;
+  entries = [];
+  next = e .next;
+}
 
 -- the record is emptied
 abbrev pub clearIf : Token → Engine → After (Result (Unit {0}) ClearRefusal)
@@ -247,14 +251,15 @@ clear e = clearIf (e .token) e
 -- the engine with the token elsewhere
 abbrev pub withToken : Engine → Token → Engine
 withToken e t = record {
-    program = e .program;
-    capacity = e .capacity;
-    memory = e .memory;
-    outlet = e .outlet;
-    cores = e .cores;
-    token = t;
-    entries = e .entries;
-    next = e .next }
+  program = e .program;
+  capacity = e .capacity;
+  memory = e .memory;
+  outlet = e .outlet;
+  cores = e .cores;
+  token = t;
+  entries = e .entries;
+  next = e .next;
+}
 
 -- the host takes the token
 abbrev pub holdIf : Token → Engine → After (Result (Unit {0}) HoldRefusal)
@@ -286,14 +291,15 @@ giveBack e = giveBackIf (e .token) e
 -- the engine with another outlet
 abbrev pub withOutlet : Engine → Outlet → Engine
 withOutlet e o = record {
-    program = e .program;
-    capacity = e .capacity;
-    memory = e .memory;
-    outlet = o;
-    cores = e .cores;
-    token = e .token;
-    entries = e .entries;
-    next = e .next }
+  program = e .program;
+  capacity = e .capacity;
+  memory = e .memory;
+  outlet = o;
+  cores = e .cores;
+  token = e .token;
+  entries = e .entries;
+  next = e .next;
+}
 
 -- the oldest waiting entry is taken
 abbrev pub takeFrom : List SentEntry → Engine → After (Result SentEntry NothingWaits)

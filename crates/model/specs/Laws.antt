@@ -85,3 +85,7 @@ pub record LawsAt (r : Run) : Type 0 where
 -- all three laws at every point of a list of calls
 abbrev pub Lawful : Settings → List ℕ → Outlet → List Call → Type 0
 Lawful s m o cs = (n : ℕ) → LawsAt (history s m o (take n cs))
+
+-- all three laws, at every point of every list of calls
+abbrev pub Laws : Type 0
+Laws = (s : Settings) (m : List ℕ) (o : Outlet) (cs : List Call) → Lawful s m o cs

@@ -181,11 +181,12 @@ newJournal e = record { start = startOf e; waiting = e .outlet .waiting; taken =
 -- what is noted of an event that an engine shows
 abbrev pub note : Engine → Event → Journal → Journal
 note e (Moved i ask answer x) j = record {
-    start = j .start;
-    waiting = j .waiting;
-    taken = j .taken;
-    held = j .held;
-    books = λ k. cond (eqb k i) (ownMove (touch ask) answer (j .books k)) (otherMove x (j .books k)) }
+  start = j .start;
+  waiting = j .waiting;
+  taken = j .taken;
+  held = j .held;
+  books = λ k. cond (eqb k i) (ownMove (touch ask) answer (j .books k)) (otherMove x (j .books k));
+}
 note e Clears j = record { start = startOf e; waiting = e .outlet .waiting; taken = []; held = j .held; books = j .books }
 note e Holds j = record { start = j .start; waiting = j .waiting; taken = j .taken; held = e .entries; books = j .books }
 note e (Takes x) j = record { start = j .start; waiting = j .waiting; taken = j .taken ++ x ∷ []; held = j .held; books = j .books }

@@ -94,11 +94,11 @@ pub record Worked : Type 0 where
   pub load : replies (engineOf loadProgram (0 ∷ []) 1 (0 ∷ []) 0) (steps (0 ∷ 0 ∷ 0 ∷ [])) ≡ answers (Done ∷ Done ∷ Faulted AddressOutside 2 ∷ [])
   -- two cores count
   pub counters :
-    replies (engineOf counterProgram (0 ∷ 0 ∷ []) 4 (0 ∷ []) 0) counterRun
-    ≡ answers (Running ∷ Running ∷ Running ∷ Running ∷ Running ∷ Running ∷ Running ∷ Running ∷ Running ∷ Running ∷ Committing ∷ Waiting ∷ Done ∷ RolledBack ∷ [])
+      replies (engineOf counterProgram (0 ∷ 0 ∷ []) 4 (0 ∷ []) 0) counterRun
+      ≡ answers (Running ∷ Running ∷ Running ∷ Running ∷ Running ∷ Running ∷ Running ∷ Running ∷ Running ∷ Running ∷ Committing ∷ Waiting ∷ Done ∷ RolledBack ∷ [])
   pub counted : engineAfter (engineOf counterProgram (0 ∷ 0 ∷ []) 4 (0 ∷ []) 0) counterRun .entries ≡ entryOf 0 Completed 6 ∷ []
   -- one line is too few for two words
   pub pair :
-    replies (engineOf pairProgram (0 ∷ []) 1 (0 ∷ 0 ∷ []) 0) (steps (0 ∷ 0 ∷ 0 ∷ 0 ∷ 0 ∷ []))
-    ≡ answers (Running ∷ Running ∷ Early ∷ Running ∷ Done ∷ [])
+      replies (engineOf pairProgram (0 ∷ []) 1 (0 ∷ 0 ∷ []) 0) (steps (0 ∷ 0 ∷ 0 ∷ 0 ∷ 0 ∷ []))
+      ≡ answers (Running ∷ Running ∷ Early ∷ Running ∷ Done ∷ [])
   pub paired : engineAfter (engineOf pairProgram (0 ∷ []) 1 (0 ∷ 0 ∷ []) 0) (steps (0 ∷ 0 ∷ 0 ∷ 0 ∷ 0 ∷ [])) .entries ≡ entryOf 0 Completed 4 ∷ []
