@@ -1,0 +1,4 @@
+// The types that the definitions of the machine share with the engine's code: states, token, calls, replies, refusals.
+pub mod call;
+pub mod refusal;
+pub mod state;
