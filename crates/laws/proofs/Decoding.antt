@@ -8,7 +8,8 @@ use lib.Dec.{ltb}
 use Rattle.std.proofs.shelf.Tests.{cond-both, ltb-true}
 use Rattle.answers.specs.declared.answer.Fault.the-variants.{AddressOutside, TooDeep, TooLong}
 use Rattle.formats.specs.declared.instruction.Instruction.{Instruction}
-use Rattle.model.specs.Instructions.{Ask, Moves, Loads, Stores, Sends, Begins, Ends, Halts, Retries, Earlies, asks, Place, past, closing, inner, innerAt}
+use Rattle.model.specs.declared.place.Place.{Place}
+use Rattle.model.specs.Instructions.{Ask, Moves, Loads, Stores, Sends, Begins, Ends, Halts, Retries, Earlies, asks, past, closing, inner, innerAt}
 use Rattle.model.specs.Instructions.{Inner, InnerFaults, InnerMoves, InnerLoads, InnerStores, InnerSends, Closes, Restarts, TakesToken}
 use Rattle.model.specs.Runs.{Touch, Reads, Writes, Neither, touch}
 

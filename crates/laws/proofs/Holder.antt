@@ -21,10 +21,12 @@ use Rattle.model.specs.declared.state.State.{State}
 use Rattle.model.specs.declared.state.State.the-variants.{Bypass, Commit, EarlyFlush, EarlyCommit, Stopped}
 use Rattle.model.specs.declared.state.Token.{Token}
 use Rattle.model.specs.declared.state.Token.the-variants.{Free, Core as CoreHas}
-use Rattle.model.specs.Instructions.{Ask, Place, onward, past, innerAt}
+use Rattle.model.specs.declared.place.Place.{Place}
+use Rattle.model.specs.Instructions.{Ask, onward, past, innerAt}
 use Rattle.model.specs.Instructions.{Inner, InnerFaults, InnerMoves, InnerLoads, InnerStores, InnerSends, Closes, Restarts, TakesToken}
 use Rattle.model.specs.OneAtATime.{Inside, further, faultsFurther, run, unit}
-use Rattle.model.specs.Lines.{Line, Effect, Nothing, Wrote, Sent, anyDirty, wrote, left}
+use Rattle.model.specs.declared.place.Line.{Line}
+use Rattle.model.specs.Lines.{Effect, Nothing, Wrote, Sent, anyDirty, wrote, left}
 use Rattle.model.specs.Cores.{Core, resting, turnedTo, performed, settle, settledPlace, settledStopped, freed, becomes, acts, finishes, faulted, ends, inCommit, inEarlyFlush, inEarlyCommit}
 use Rattle.model.specs.Engine.{Engine, Outlet, coreAt, viewOf, change, memoryAfter, outletAfter}
 use Rattle.model.specs.Runs.{Journal, Book, Touch, Reads, Writes, Neither, touch, touches, ownMove, opened, has}

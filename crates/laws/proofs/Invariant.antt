@@ -13,7 +13,8 @@ use Rattle.model.specs.declared.state.State.{State}
 use Rattle.model.specs.declared.state.State.the-variants.{Bypass, Transaction, Commit, Abort, EarlyFlush, EarlyCommit, Stopped}
 use Rattle.model.specs.declared.state.Token.{Token}
 use Rattle.model.specs.declared.state.Token.the-variants.{Free, Core as CoreHas, Host}
-use Rattle.model.specs.Instructions.{Place, Closes, innerAt}
+use Rattle.model.specs.declared.place.Place.{Place}
+use Rattle.model.specs.Instructions.{Closes, innerAt}
 use Rattle.model.specs.OneAtATime.{Scene, Inside, run, Machine, runs}
 use Rattle.model.specs.Lines.{holds, tagged}
 use Rattle.model.specs.Cores.{Core, settle}

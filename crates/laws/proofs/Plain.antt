@@ -16,7 +16,8 @@ use Rattle.model.specs.declared.state.State.{State}
 use Rattle.model.specs.declared.state.State.the-variants.{Bypass, Transaction, Commit, Abort, EarlyFlush, EarlyCommit, Stopped}
 use Rattle.model.specs.declared.state.Token.{Token}
 use Rattle.model.specs.declared.state.Token.the-variants.{Free, Core as CoreHas, Host}
-use Rattle.model.specs.Instructions.{Ask, Place, onward, past, Outer, OuterFaults, OuterMoves, OuterLoads, OuterStores, OuterSends, Opens, Stops, outerAt}
+use Rattle.model.specs.declared.place.Place.{Place}
+use Rattle.model.specs.Instructions.{Ask, onward, past, Outer, OuterFaults, OuterMoves, OuterLoads, OuterStores, OuterSends, Opens, Stops, outerAt}
 use Rattle.model.specs.OneAtATime.{Machine, run}
 use Rattle.model.specs.Lines.{Effect, Nothing, Wrote, Sent}
 use Rattle.model.specs.Cores.{Core, Outcome, resting, rolledBack, settle, ifFree, freed, becomes, plain, plainSend, faulted, inBypass, byState}

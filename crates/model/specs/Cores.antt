@@ -20,10 +20,12 @@ use Rattle.model.specs.declared.state.State.{State}
 use Rattle.model.specs.declared.state.State.the-variants.{Bypass, Transaction, Commit, Abort, EarlyFlush, EarlyCommit, Stopped}
 use Rattle.model.specs.declared.state.Token.{Token}
 use Rattle.model.specs.declared.state.Token.the-variants.{Free, Core as CoreHas, Host}
-use Rattle.model.specs.Instructions.{Place, onward, past, Outer, OuterFaults, OuterMoves, OuterLoads, OuterStores, OuterSends, Opens, Stops, outerAt}
+use Rattle.model.specs.declared.place.Place.{Place}
+use Rattle.model.specs.Instructions.{onward, past, Outer, OuterFaults, OuterMoves, OuterLoads, OuterStores, OuterSends, Opens, Stops, outerAt}
 use Rattle.model.specs.Instructions.{Inner, InnerFaults, InnerMoves, InnerLoads, InnerStores, InnerSends, Closes, Restarts, TakesToken, innerAt}
 use Rattle.model.specs.OneAtATime.{Turn, Settled}
-use Rattle.model.specs.Lines.{Line, Effect, Nothing, Wrote, Sent, holds, valueAt, loadedLine, storedLine, storeAt, anyDirty, wrote, left}
+use Rattle.model.specs.declared.place.Line.{Line}
+use Rattle.model.specs.Lines.{Effect, Nothing, Wrote, Sent, holds, valueAt, loadedLine, storedLine, storeAt, anyDirty, wrote, left}
 
 -- one core; depth and count are 0 and there are no lines outside a block
 pub record Core : Type 0 where

@@ -38,9 +38,10 @@ use Rattle.model.specs.declared.state.State.{State}
 use Rattle.model.specs.declared.state.State.the-variants.{Bypass, Transaction, Commit, Abort, EarlyFlush, EarlyCommit, Stopped}
 use Rattle.model.specs.declared.state.Token.{Token}
 use Rattle.model.specs.declared.state.Token.the-variants.{Free, Core as CoreHas, Host}
-use Rattle.model.specs.Instructions.{Place}
+use Rattle.model.specs.declared.place.Place.{Place}
 use Rattle.model.specs.OneAtATime.{Turn}
-use Rattle.model.specs.Lines.{Line, Effect, Nothing, Wrote, Sent, tagged}
+use Rattle.model.specs.declared.place.Line.{Line}
+use Rattle.model.specs.Lines.{Effect, Nothing, Wrote, Sent, tagged}
 use Rattle.model.specs.Cores.{Core, resting, turnedTo, View, Outcome, outcome}
 
 -- the entries that wait, oldest first, and how many more find room

@@ -1,5 +1,4 @@
 -- What an instruction does to pc and registers, and what else it asks for: said once, for both machines.
---   Place     a pc and the eight registers
 --   Ask       what an instruction asks for: a move, a word, a write, a sending, a block to open or close, an end
 --   asks      the instruction at a place, read as an Ask
 --   Outer     what it comes to outside every block;  outerAt  at a place
@@ -13,15 +12,12 @@ use lib.ListN.{getD, set}
 use Rattle.formats.specs.declared.register.Register.{Register}
 use Rattle.formats.specs.declared.register.Register.the-variants.{R0, R1, R2, R3, R4, R5, R6, R7}
 use Rattle.formats.specs.declared.entry.SentEntry.{SentEntry}
+use Rattle.formats.specs.Sents.{sentWord}
 use Rattle.formats.specs.declared.instruction.Instruction.{Instruction}
 use Rattle.formats.specs.declared.instruction.Instruction.the-variants.{Halt, Set, Add, Sub, Mean, Load, Store, Jump, Jz, Jlt, Begin, End, Retry, Early, Out}
+use Rattle.model.specs.declared.place.Place.{Place}
 use Rattle.answers.specs.declared.answer.Fault.{Fault}
 use Rattle.answers.specs.declared.answer.Fault.the-variants.{AddressOutside, NoOpenBlock, TooDeep, TooLong, HaltInBlock}
-
--- the number of the next instruction, and the eight registers
-pub record Place : Type 0 where
-  pub pc : ℕ
-  pub registers : List ℕ
 
 -- where a register stands in the list
 abbrev pub index : Register → ℕ
@@ -83,7 +79,7 @@ meaning Begin p = Begins
 meaning End p = Ends
 meaning Retry p = Retries
 meaning Early p = Earlies
-meaning (Out a c) p = Sends (record { channel = c; word = reg (p .registers) a })
+meaning (Out a c) p = Sends (sentWord c (reg (p .registers) a))
 
 -- what the instruction at a place asks for; past the program's end, to stop
 unfoldable pub asks : List Instruction → Place → Ask

@@ -1,5 +1,4 @@
 -- The write buffer of a core: lines in the order in which they were made.
---   Line      an address, a value, a read tag and a dirty mark
 --   holds     is there a line at an address?  valueAt  its value;  tagged  is it tagged?
 --   storeAt   the line at an address takes a value and becomes dirty
 --   anyDirty  is a line dirty?  wrote  the write of the oldest dirty line;  left  the lines after it
@@ -9,13 +8,7 @@ use mathlib.Core.Bool.{Bool, true, false, cond, _||_, _&&_}
 use mathlib.Core.List.{List, [], _∷_}
 use lib.Dec.{eqb}
 use Rattle.formats.specs.declared.entry.SentEntry.{SentEntry}
-
--- a buffered word: where it belongs, what it is, whether the block read it from memory, whether it is still to be written
-pub record Line : Type 0 where
-  pub address : ℕ
-  pub value : ℕ
-  pub tag : Bool
-  pub dirty : Bool
+use Rattle.model.specs.declared.place.Line.{Line}
 
 -- what a step does that others can see: nothing, one word written, or one entry sent
 pub data Effect : Type 0 where

@@ -15,7 +15,8 @@ use Rattle.formats.specs.declared.entry.SentEntry.{SentEntry}
 use Rattle.formats.specs.declared.entry.Mark.{Mark}
 use Rattle.formats.specs.declared.entry.Mark.the-variants.{Completed, Discarded, Kept}
 use Rattle.formats.specs.declared.instruction.Instruction.{Instruction}
-use Rattle.model.specs.Instructions.{Place, onward, past, Outer, OuterFaults, OuterMoves, OuterLoads, OuterStores, OuterSends, Opens, Stops, outerAt}
+use Rattle.model.specs.declared.place.Place.{Place}
+use Rattle.model.specs.Instructions.{onward, past, Outer, OuterFaults, OuterMoves, OuterLoads, OuterStores, OuterSends, Opens, Stops, outerAt}
 use Rattle.model.specs.Instructions.{Inner, InnerFaults, InnerMoves, InnerLoads, InnerStores, InnerSends, Closes, Restarts, TakesToken, innerAt}
 
 -- a turn: which core, how its unit ended, how many instructions it performed
