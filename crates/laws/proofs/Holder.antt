@@ -26,7 +26,9 @@ use Rattle.model.specs.Instructions.{Ask, onward, past, innerAt}
 use Rattle.model.specs.Instructions.{Inner, InnerFaults, InnerMoves, InnerLoads, InnerStores, InnerSends, Closes, Restarts, TakesToken}
 use Rattle.model.specs.OneAtATime.{Inside, further, faultsFurther, run, unit}
 use Rattle.model.specs.declared.place.Line.{Line}
-use Rattle.model.specs.Lines.{Effect, Nothing, Wrote, Sent, anyDirty, wrote, left}
+use Rattle.model.specs.declared.effect.Effect.{Effect}
+use Rattle.model.specs.declared.effect.Effect.the-variants.{Nothing, Wrote, Sent}
+use Rattle.model.specs.Lines.{anyDirty, wrote, left}
 use Rattle.model.specs.Cores.{Core, resting, turnedTo, performed, settle, settledPlace, settledStopped, freed, becomes, acts, finishes, faulted, ends, inCommit, inEarlyFlush, inEarlyCommit}
 use Rattle.model.specs.Engine.{Engine, Outlet, coreAt, viewOf, change, memoryAfter, outletAfter}
 use Rattle.model.specs.Runs.{Journal, Book, Touch, Reads, Writes, Neither, touch, touches, ownMove, opened, has}

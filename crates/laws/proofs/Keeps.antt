@@ -20,7 +20,9 @@ use Rattle.model.specs.declared.state.Token.the-variants.{Free, Core as CoreHas
 use Rattle.model.specs.Instructions.{Ask}
 use Rattle.model.specs.OneAtATime.{Machine, Turn, runs, turn, andThen, Settled, noCore}
 use Rattle.model.specs.declared.place.Line.{Line}
-use Rattle.model.specs.Lines.{Effect, Nothing, Wrote, Sent, tagged}
+use Rattle.model.specs.declared.effect.Effect.{Effect}
+use Rattle.model.specs.declared.effect.Effect.the-variants.{Nothing, Wrote, Sent}
+use Rattle.model.specs.Lines.{tagged}
 use Rattle.model.specs.Cores.{Core, turnedTo, settle, Outcome}
 use Rattle.model.specs.Engine.{Engine, coreAt, blank, change, struck, struckAt, memoryAfter, outletAfter}
 use Rattle.model.specs.Runs.{Book, Journal, Moved, note, touch, ownMove, otherMove, has}

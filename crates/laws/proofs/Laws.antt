@@ -31,7 +31,8 @@ use Rattle.model.specs.declared.call.Reply.{Reply}
 use Rattle.model.specs.declared.call.Reply.the-variants.{Word}
 use Rattle.model.specs.Instructions.{Ask, asks, Outer, OuterFaults, OuterMoves, OuterLoads, OuterStores, OuterSends, Opens, Stops, outerAt}
 use Rattle.model.specs.Instructions.{Inner, InnerFaults, InnerMoves, InnerLoads, InnerStores, InnerSends, Closes, Restarts, TakesToken, innerAt}
-use Rattle.model.specs.Lines.{Effect, holds, anyDirty, left}
+use Rattle.model.specs.declared.effect.Effect.{Effect}
+use Rattle.model.specs.Lines.{holds, anyDirty, left}
 use Rattle.model.specs.Cores.{Core, View, Outcome, ifFree, early, byState, inBypass, inTransaction, inCommit, inEarlyFlush, inEarlyCommit, innerOf}
 use Rattle.model.specs.Engine.{Engine, Outlet, Settings, coreAt, viewOf, outcomeOf, After, stays, stepped, step, wanted, clear, hold, takeOldest, readIf}
 use Rattle.model.specs.Runs.{Run, Journal, Book, Event, Moved, Silent, Clears, Holds, Takes, event, movedEvent, clearEvent, holdEvent, takeEvent, history, reply}

@@ -17,7 +17,8 @@ use Rattle.model.specs.declared.state.Token.{Token}
 use Rattle.model.specs.declared.state.Token.the-variants.{Free, Core as CoreHas, Host}
 use Rattle.model.specs.Instructions.{Ask}
 use Rattle.model.specs.OneAtATime.{Machine, noCore, run, unit, runs}
-use Rattle.model.specs.Lines.{Effect, Nothing}
+use Rattle.model.specs.declared.effect.Effect.{Effect}
+use Rattle.model.specs.declared.effect.Effect.the-variants.{Nothing}
 use Rattle.model.specs.Cores.{Core, settle, settledStopped, settledPlace, freed, becomes, acts, takesToken, finishes}
 use Rattle.model.specs.Engine.{Engine, coreAt, viewOf, change, memoryAfter}
 use Rattle.model.specs.Runs.{Journal, touch, ownMove}

@@ -12,7 +12,8 @@ use Rattle.std.proofs.shelf.Lists.{length-set, getD-set-same, getD-set-other, s
 use Rattle.std.proofs.shelf.Tests.{cases-bool, eqb-true, eqb-false, eq-eqb, or-parts, or-cases, or-from, or-left, or-right, ne-eqb, false≢true, true≢false}
 use Rattle.std.proofs.shelf.Ways.{tells}
 use Rattle.model.specs.declared.place.Line.{Line}
-use Rattle.model.specs.Lines.{Effect, holds, valueAt, tagged, loadedLine, storedLine, restored, storeAt, anyDirty, cleaned, wrote, left}
+use Rattle.model.specs.declared.effect.Effect.{Effect}
+use Rattle.model.specs.Lines.{holds, valueAt, tagged, loadedLine, storedLine, restored, storeAt, anyDirty, cleaned, wrote, left}
 use Rattle.model.specs.Engine.{memoryAfter}
 
 or-swap : (x y z : Bool) → (x || (y || z)) ≡ (y || (x || z))

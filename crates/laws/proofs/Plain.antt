@@ -19,7 +19,8 @@ use Rattle.model.specs.declared.state.Token.the-variants.{Free, Core as CoreHas
 use Rattle.model.specs.declared.place.Place.{Place}
 use Rattle.model.specs.Instructions.{Ask, onward, past, Outer, OuterFaults, OuterMoves, OuterLoads, OuterStores, OuterSends, Opens, Stops, outerAt}
 use Rattle.model.specs.OneAtATime.{Machine, run}
-use Rattle.model.specs.Lines.{Effect, Nothing, Wrote, Sent}
+use Rattle.model.specs.declared.effect.Effect.{Effect}
+use Rattle.model.specs.declared.effect.Effect.the-variants.{Nothing, Wrote, Sent}
 use Rattle.model.specs.Cores.{Core, Outcome, resting, rolledBack, settle, ifFree, freed, becomes, plain, plainSend, faulted, inBypass, byState}
 use Rattle.model.specs.Engine.{Engine, coreAt, viewOf, change, memoryAfter}
 use Rattle.model.specs.Runs.{Journal, touch, ownMove}

@@ -21,7 +21,8 @@ use Rattle.model.specs.Instructions.{Ask, onward, past, asks, innerAt}
 use Rattle.model.specs.Instructions.{Inner, InnerFaults, InnerMoves, InnerLoads, InnerStores, InnerSends, Closes, Restarts, TakesToken}
 use Rattle.model.specs.OneAtATime.{Machine, Inside, further, run, unit}
 use Rattle.model.specs.declared.place.Line.{Line}
-use Rattle.model.specs.Lines.{Nothing, holds, valueAt, tagged, loadedLine, storedLine, storeAt, anyDirty}
+use Rattle.model.specs.declared.effect.Effect.the-variants.{Nothing}
+use Rattle.model.specs.Lines.{holds, valueAt, tagged, loadedLine, storedLine, storeAt, anyDirty}
 use Rattle.model.specs.Cores.{Core, resting, turnedTo, performed, rolledBack, settle, settledPlace, freed, becomes, takesToken, faulted, ends, early, withLine, closes, inTransaction}
 use Rattle.model.specs.Engine.{Engine, coreAt, viewOf}
 use Rattle.model.specs.Runs.{Journal, Book, has, Touch, Reads, Writes, Neither, touch, touches, opened}

@@ -25,7 +25,9 @@ use Rattle.model.specs.Instructions.{onward, past, Outer, OuterFaults, OuterMo
 use Rattle.model.specs.Instructions.{Inner, InnerFaults, InnerMoves, InnerLoads, InnerStores, InnerSends, Closes, Restarts, TakesToken, innerAt}
 use Rattle.model.specs.OneAtATime.{Turn, Settled}
 use Rattle.model.specs.declared.place.Line.{Line}
-use Rattle.model.specs.Lines.{Effect, Nothing, Wrote, Sent, holds, valueAt, loadedLine, storedLine, storeAt, anyDirty, wrote, left}
+use Rattle.model.specs.declared.effect.Effect.{Effect}
+use Rattle.model.specs.declared.effect.Effect.the-variants.{Nothing, Wrote, Sent}
+use Rattle.model.specs.Lines.{holds, valueAt, loadedLine, storedLine, storeAt, anyDirty, wrote, left}
 
 -- one core; depth and count are 0 and there are no lines outside a block
 pub record Core : Type 0 where

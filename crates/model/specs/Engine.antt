@@ -36,12 +36,15 @@ use Rattle.model.specs.declared.refusal.TagsRefusal.{TagsRefusal}
 use Rattle.model.specs.declared.refusal.TagsRefusal.the-variants.{NoSuchCore as NoTags, TooShort}
 use Rattle.model.specs.declared.state.State.{State}
 use Rattle.model.specs.declared.state.State.the-variants.{Bypass, Transaction, Commit, Abort, EarlyFlush, EarlyCommit, Stopped}
+use Rattle.model.specs.declared.state.Look.{Look}
 use Rattle.model.specs.declared.state.Token.{Token}
 use Rattle.model.specs.declared.state.Token.the-variants.{Free, Core as CoreHas, Host}
 use Rattle.model.specs.declared.place.Place.{Place}
 use Rattle.model.specs.OneAtATime.{Turn}
 use Rattle.model.specs.declared.place.Line.{Line}
-use Rattle.model.specs.Lines.{Effect, Nothing, Wrote, Sent, tagged}
+use Rattle.model.specs.declared.effect.Effect.{Effect}
+use Rattle.model.specs.declared.effect.Effect.the-variants.{Nothing, Wrote, Sent}
+use Rattle.model.specs.Lines.{tagged}
 use Rattle.model.specs.Cores.{Core, resting, turnedTo, View, Outcome, outcome}
 
 -- the entries that wait, oldest first, and how many more find room
@@ -356,16 +359,6 @@ Tags e i before after answer =
     (TagsAnswered (coreAt e i .lines) before after answer)
     (TagsRefused TooShort before after answer))
     (TagsRefused NoTags before after answer)
-
--- what people see of a core
-pub record Look : Type 0 where
-  pub state : State
-  pub pc : ℕ
-  pub registers : List ℕ
-  pub depth : ℕ
-  pub count : ℕ
-  -- how many lines are used
-  pub used : ℕ
 
 -- a look at a core
 abbrev pub lookAt : Core → Look

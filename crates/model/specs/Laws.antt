@@ -20,7 +20,7 @@ use Rattle.model.specs.declared.call.Call.the-variants.{Read}
 use Rattle.model.specs.declared.call.Reply.the-variants.{Word}
 use Rattle.model.specs.Instructions.{Ask}
 use Rattle.model.specs.OneAtATime.{Machine, runs}
-use Rattle.model.specs.Lines.{Effect}
+use Rattle.model.specs.declared.effect.Effect.{Effect}
 use Rattle.model.specs.Cores.{settle}
 use Rattle.model.specs.Engine.{Settings, Outlet}
 use Rattle.model.specs.Runs.{Run, Moved, event, reply, history}

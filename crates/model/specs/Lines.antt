@@ -7,14 +7,9 @@ use Prim.Native.Nat.{ℕ}
 use mathlib.Core.Bool.{Bool, true, false, cond, _||_, _&&_}
 use mathlib.Core.List.{List, [], _∷_}
 use lib.Dec.{eqb}
-use Rattle.formats.specs.declared.entry.SentEntry.{SentEntry}
 use Rattle.model.specs.declared.place.Line.{Line}
-
--- what a step does that others can see: nothing, one word written, or one entry sent
-pub data Effect : Type 0 where
-  Nothing : Effect
-  Wrote : (address : ℕ) → (word : ℕ) → Effect
-  Sent : SentEntry → Effect
+use Rattle.model.specs.declared.effect.Effect.{Effect}
+use Rattle.model.specs.declared.effect.Effect.the-variants.{Nothing, Wrote, Sent}
 
 -- is there a line at the address?
 abbrev pub holds : List Line → ℕ → Bool

@@ -24,7 +24,8 @@ use Rattle.model.specs.declared.call.Reply.{Reply}
 use Rattle.model.specs.declared.call.Reply.the-variants.{Stepped, Cleared, Held, Word, GivenBack, Taken}
 use Rattle.model.specs.Instructions.{Ask, Moves, Loads, Stores, Sends, Begins, Ends, Halts, Retries, Earlies, asks}
 use Rattle.model.specs.OneAtATime.{Machine, Turn as Entry}
-use Rattle.model.specs.Lines.{Effect, Nothing, Wrote, Sent}
+use Rattle.model.specs.declared.effect.Effect.{Effect}
+use Rattle.model.specs.declared.effect.Effect.the-variants.{Nothing, Wrote, Sent}
 use Rattle.model.specs.Cores.{settle}
 use Rattle.model.specs.Engine.{Engine, Outlet, Settings, make, coreAt, outcomeOf, step, turn, clear, hold, read, giveBack, takeOldest}
 

@@ -26,3 +26,15 @@ pub enum Token {
     Core(usize),
     Host,
 }
+
+// What people see of a core.
+#[derive(Clone, Copy)]
+pub struct Look {
+    pub state: State,
+    pub pc: usize,
+    pub registers: [u32; 8],
+    pub depth: u32,
+    pub count: u32,
+    // how many lines are used
+    pub used: usize,
+}
