@@ -1,6 +1,9 @@
 -- The write buffer as the list of its lines.
+--   linesOf     the lines in use, oldest first
+--   firstIndex  where the first line that passes a test stands
+--   indexOf     where the line at an address stands;  dirtyIndex  where the oldest dirty line stands
 -- Assumes nothing.
-use mathlib.Core.Bool.{cond}
+use mathlib.Core.Bool.{Bool, cond}
 use mathlib.Core.List.{List, [], _∷_}
 use Prim.Native.Nat.{ℕ, suc}
 use lib.Dec.{eqb}
@@ -19,12 +22,15 @@ abbrev pub later : Option ℕ → Option ℕ
 later None = None
 later (Some i) = Some (suc i)
 
+-- where the first line that passes a test stands
+abbrev pub firstIndex : (Line → Bool) → List Line → Option ℕ
+firstIndex test [] = None
+firstIndex test (l ∷ ls) = cond (test l) (Some 0) (later (firstIndex test ls))
+
 -- where the line at an address stands
 abbrev pub indexOf : List Line → ℕ → Option ℕ
-indexOf [] a = None
-indexOf (l ∷ ls) a = cond (eqb (l .address) a) (Some 0) (later (indexOf ls a))
+indexOf ls a = firstIndex (λ l. eqb (l .address) a) ls
 
 -- where the oldest dirty line stands
 abbrev pub dirtyIndex : List Line → Option ℕ
-dirtyIndex [] = None
-dirtyIndex (l ∷ ls) = cond (l .dirty) (Some 0) (later (dirtyIndex ls))
+dirtyIndex ls = firstIndex (λ l. l .dirty) ls

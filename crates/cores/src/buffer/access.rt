@@ -1,12 +1,14 @@
 // Looking up, storing to and flushing the lines of a write buffer.
 ghost use mathlib.Core.Path.{_≡_};
-ghost use mathlib.Core.Bool.{cond};
+ghost use mathlib.Core.Bool.{Bool, cond};
 ghost use mathlib.Core.List.{[], _∷_, _++_};
 ghost use lib.Dec.{ltb};
-ghost use lib.ListN.{length, set, getD};
-ghost use Rattle.model.specs.Lines.{tagged, anyDirty, left, restored};
+ghost use lib.ListN.{length};
+ghost use Rattle.model.specs.Lines.{tagged, anyDirty, holds, valueAt, storeAt, wrote, left};
 ghost use Rattle.cores.specs.Buffers.{linesOf, indexOf, dirtyIndex};
+ghost use Rattle.std.specs.Options.{Cases as BySome};
 use super::Buffer;
+use model::effect::Effect;
 use model::place::Line;
 
 impl Buffer {
