@@ -17,7 +17,7 @@ impl Program {
     pub fn get(&self, place: usize) -> Option<Instruction>
         ensures { λ r. ⌜ r ≡ instructionIn (instructionsOf (now (self .entry))) place ⌝ }
     {
-        if place < self.count {
+        if place < self.len() {
             Some(self.instructions[place])
         } else {
             None
