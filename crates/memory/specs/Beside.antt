@@ -1,0 +1,9 @@
+-- What a memory stands on beside its words.
+use Prim.Native.Nat.{ℕ}
+use mathlib.Core.List.{List}
+use base.Fml.{GName}
+
+-- a handed-in buffer, by the name of its reference, and what of it is no word of the memory; or two memories in one
+pub data Beside : Type 0 where
+  over : GName → List ℕ → Beside
+  both : Beside → Beside → Beside
