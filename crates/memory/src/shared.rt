@@ -7,6 +7,9 @@ ghost use Rattle.memory.specs.Beside.{Beside};
 ghost use Rattle.memory.specs.Shared.{wordAt, written, writeAnswer};
 use answers::refusal::OutsideMemory;
 
+// The most words that a memory has.
+pub const MOST_WORDS: usize = 65_536;
+
 // `words m` is the list of words that the memory m means, at most 65,536.
 // `beside m` is what m stands on beside them: its handed-in buffer, and what of that is no word of m.
 pub trait Memory {

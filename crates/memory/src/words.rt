@@ -3,11 +3,9 @@ ghost use mathlib.Core.Path.{_≡_};
 ghost use denote.Ref.{name, now as behind};
 ghost use Rattle.memory.specs.Shared.{written, writeAnswer};
 ghost use Rattle.memory.specs.Words.{memoryOf, wordsBeside, allWritten};
-use answers::refusal::OutsideMemory;
+use crate::shared::MOST_WORDS;
 use crate::shared::Memory;
-
-// The most words that a memory has.
-const MOST: usize = 65_536;
+use answers::refusal::OutsideMemory;
 
 // The first 65,536 words of `all` are the memory; those past them are never touched.
 #[derive(Drop)]
@@ -31,7 +29,7 @@ pub impl<'a> Memory for WordMemory<'a> as WordMemoryMemory {
     ghost beside = { λ m. wordsBeside (m .all) };
 
     fn len(&self) -> usize {
-        self.all.len().min(MOST)
+        self.all.len().min(MOST_WORDS)
     }
 
     fn read(&self, address: usize) -> Result<u32, OutsideMemory> {

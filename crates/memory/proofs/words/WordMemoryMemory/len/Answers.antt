@@ -5,6 +5,6 @@ use Rattle.memory.proofs.words.WordMemoryMemory.len.Needs as need
 
 pub returns : need.returns
 returns c = record {
-    value = c .min .ensures ∙ front-length 65536 (c .args .self .now .all .now);
-    bound = omega arith
-  }
+  value = c .min .ensures ∙ front-length 65536 (c .args .self .now .all .now);
+  bound = omega arith;
+}

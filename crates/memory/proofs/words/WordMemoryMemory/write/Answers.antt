@@ -26,7 +26,7 @@ returns-then-address-len c =
       value = answers-inside (memoryOf all) a (inside c);
       after = leaves-front 65536 all a (c .args .word) (inside c);
       same = ap (over (c .args .self .now .all .name)) (past-front 65536 all a (c .args .word) (inside c));
-      buffer = all-inside 65536 all a (c .args .word) (inside c)
+      buffer = all-inside 65536 all a (c .args .word) (inside c);
     }
 
 pub returns-else-address-len : need.returns-else-address-len
@@ -38,5 +38,5 @@ returns-else-address-len c =
       value = answers-outside (memoryOf all) a h;
       after = leaves-outside (memoryOf all) a (c .args .word) h;
       same = refl;
-      buffer = all-outside 65536 all a (c .args .word) h
+      buffer = all-outside 65536 all a (c .args .word) h;
     }
