@@ -1,10 +1,9 @@
 // An outlet that is a store of its own, with room for 64 entries.
 ghost use mathlib.Core.List.{[]};
 ghost use mathlib.Core.Path.{_≡_};
-ghost use Prim.Native.Nat.{_-_};
 ghost use lib.ListN.{length};
 ghost use Rattle.outlet.specs.Beside.{nothing};
-ghost use Rattle.outlet.specs.Ring.{ringOf};
+ghost use Rattle.outlet.specs.Places.{inRing, roomIn};
 use crate::ring::Ring;
 use crate::waiting::Outlet;
 use answers::refusal::NoRoom;
@@ -25,8 +24,8 @@ pub struct StoreOutlet {
 impl StoreOutlet {
     // An empty store.
     pub fn new() -> StoreOutlet
-        ensures waiting { λ r. ⌜ ringOf (r .entries) (r .ring .first) (r .ring .count) ≡ [] ⌝ }
-        ensures room { λ r. ⌜ r .ring .places - r .ring .count ≡ 64 ⌝ }
+        ensures waiting { λ r. ⌜ inRing (r .entries) (r .ring) ≡ [] ⌝ }
+        ensures room { λ r. ⌜ roomIn (r .ring) ≡ 64 ⌝ }
     {
         let none = SentEntry {
             channel: 0,
@@ -40,9 +39,9 @@ impl StoreOutlet {
 }
 
 pub impl Outlet for StoreOutlet as StoreOutletOutlet {
-    ghost waiting = { λ o. ringOf (o .entries) (o .ring .first) (o .ring .count) };
+    ghost waiting = { λ o. inRing (o .entries) (o .ring) };
 
-    ghost room = { λ o. o .ring .places - o .ring .count };
+    ghost room = { λ o. roomIn (o .ring) };
 
     ghost beside = { λ _. nothing };
 

@@ -1,0 +1,82 @@
+// An outlet over handed-in bytes, five to an entry: its channel, then its word, most significant byte first.
+ghost use mathlib.Core.List.{[]};
+ghost use mathlib.Core.Path.{_≡_};
+ghost use Prim.Native.Nat.{_/_};
+ghost use lib.ListN.{length};
+ghost use denote.Ref.{name, now as behind};
+ghost use Rattle.outlet.specs.Bytes.{entriesIn, bytesBeside, bytesSent};
+ghost use Rattle.outlet.specs.Places.{inRing, roomIn, nextPlace};
+ghost use Rattle.outlet.specs.Waiting.{sendAnswer, sent, roomSent, takeAnswer, taken, roomTaken};
+use crate::ring::Ring;
+use crate::slots::Slots;
+use crate::waiting::Outlet;
+use answers::refusal::NoRoom;
+use answers::refusal::NothingWaits;
+use formats::entry::SentEntry;
+
+// Each whole five bytes are a slot for an entry; the bytes past the last slot are never touched.
+#[derive(Drop)]
+pub struct ByteOutlet<'a> {
+    slots: Slots<'a>,
+    ring: Ring,
+    ghost whole: { ring .places ≡ length (behind (slots .bytes)) / 5 },
+}
+
+impl<'a> ByteOutlet<'a> {
+    // The empty outlet over the bytes handed in, which it leaves as they are.
+    pub fn new(bytes: &'a mut [u8]) -> ByteOutlet<'a>
+        ensures holds { λ r. ⌜ name (r .slots .bytes) ≡ name (bytes .entry) ⌝ }
+        ensures value { λ r. ⌜ now (r .slots .bytes) ≡ now (bytes .entry) ⌝ }
+        ensures waiting { λ r. ⌜ inRing (entriesIn (now (r .slots .bytes))) (r .ring) ≡ [] ⌝ }
+        ensures room { λ r. ⌜ roomIn (r .ring) ≡ length (now (bytes .entry)) / 5 ⌝ }
+    {
+        let places = bytes.len() / 5;
+        ByteOutlet {
+            slots: Slots { bytes },
+            ring: Ring::new(places),
+        }
+    }
+}
+
+pub impl<'a> Outlet for ByteOutlet<'a> as ByteOutletOutlet {
+    ghost waiting = { λ o. inRing (entriesIn (behind (o .slots .bytes))) (o .ring) };
+
+    ghost room = { λ o. roomIn (o .ring) };
+
+    ghost beside = { λ o. bytesBeside (o .slots .bytes) };
+
+    // Beyond what every outlet promises: the entry's bytes go into the next slot, and all other bytes stay.
+    fn send(&mut self, entry: SentEntry) -> Result<(), NoRoom>
+        ensures value { λ r. ⌜ r ≡ sendAnswer (roomIn (now (self .entry) .ring)) ⌝ }
+        ensures after { λ _. ⌜ inRing (entriesIn (now (now (self .exit) .slots .bytes))) (now (self .exit) .ring) ≡ sent (inRing (entriesIn (now (now (self .entry) .slots .bytes))) (now (self .entry) .ring)) (roomIn (now (self .entry) .ring)) entry ⌝ }
+        ensures left { λ _. ⌜ roomIn (now (self .exit) .ring) ≡ roomSent (roomIn (now (self .entry) .ring)) ⌝ }
+        ensures same { λ _. ⌜ bytesBeside (now (self .exit) .slots .bytes) ≡ bytesBeside (now (self .entry) .slots .bytes) ⌝ }
+        ensures buffer { λ _. ⌜ now (now (self .exit) .slots .bytes) ≡ bytesSent (now (now (self .entry) .slots .bytes)) (roomIn (now (self .entry) .ring)) (nextPlace (now (self .entry) .ring)) entry ⌝ }
+    {
+        match self.ring.claim() {
+            Some(place) => {
+                self.slots.put(place, entry);
+                Ok(())
+            }
+            None => Err(NoRoom),
+        }
+    }
+
+    // Beyond what every outlet promises: no byte changes.
+    fn take(&mut self) -> Result<SentEntry, NothingWaits>
+        ensures value { λ r. ⌜ r ≡ takeAnswer (inRing (entriesIn (now (now (self .entry) .slots .bytes))) (now (self .entry) .ring)) ⌝ }
+        ensures after { λ _. ⌜ inRing (entriesIn (now (now (self .exit) .slots .bytes))) (now (self .exit) .ring) ≡ taken (inRing (entriesIn (now (now (self .entry) .slots .bytes))) (now (self .entry) .ring)) ⌝ }
+        ensures left { λ _. ⌜ roomIn (now (self .exit) .ring) ≡ roomTaken (inRing (entriesIn (now (now (self .entry) .slots .bytes))) (now (self .entry) .ring)) (roomIn (now (self .entry) .ring)) ⌝ }
+        ensures same { λ _. ⌜ bytesBeside (now (self .exit) .slots .bytes) ≡ bytesBeside (now (self .entry) .slots .bytes) ⌝ }
+        ensures buffer { λ _. ⌜ now (now (self .exit) .slots .bytes) ≡ now (now (self .entry) .slots .bytes) ⌝ }
+    {
+        match self.ring.release() {
+            Some(place) => Ok(self.slots.get(place)),
+            None => Err(NothingWaits),
+        }
+    }
+
+    fn room(&self) -> usize {
+        self.ring.room()
+    }
+}
