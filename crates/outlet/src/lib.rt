@@ -3,4 +3,6 @@ pub mod bytes;
 mod ring;
 mod slots;
 pub mod store;
+#[cfg(test)]
+mod tests;
 pub mod waiting;

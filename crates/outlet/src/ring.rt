@@ -1,10 +1,7 @@
 // Where a ring of places stands: which place is the oldest, and how many are filled from it on.
-ghost use mathlib.Core.Bool.{cond};
 ghost use mathlib.Core.Path.{_≡_};
-ghost use Prim.Native.Nat.{_+_, _-_, _<_, _≤_};
-ghost use lib.Dec.{ltb};
-ghost use Rattle.std.specs.declared.option.Option.the-variants.{Some, None};
-ghost use Rattle.outlet.specs.Ring.{wrapped};
+ghost use Prim.Native.Nat.{_-_, _<_, _≤_};
+ghost use Rattle.outlet.specs.Ring.{wrapped, claimAnswer, countClaimed, releaseAnswer, firstReleased};
 
 #[derive(Clone, Copy)]
 pub struct Ring {
@@ -38,12 +35,12 @@ impl Ring {
         self.places - self.count
     }
 
-    // Fills the place behind the filled ones, and answers which it is; where none is free, nothing changes.
+    // Claims the place behind the filled ones, and answers which it is; where none is free, nothing changes.
     pub fn claim(&mut self) -> Option<usize>
-        ensures value { λ r. ⌜ r ≡ cond (ltb (now (self .entry) .count) (now (self .entry) .places)) (Some (wrapped (now (self .entry) .places) (now (self .entry) .first + now (self .entry) .count))) None ⌝ }
+        ensures value { λ r. ⌜ r ≡ claimAnswer (now (self .entry) .places) (now (self .entry) .first) (now (self .entry) .count) ⌝ }
         ensures places { λ _. ⌜ now (self .exit) .places ≡ now (self .entry) .places ⌝ }
         ensures first { λ _. ⌜ now (self .exit) .first ≡ now (self .entry) .first ⌝ }
-        ensures count { λ _. ⌜ now (self .exit) .count ≡ cond (ltb (now (self .entry) .count) (now (self .entry) .places)) (now (self .entry) .count + 1) (now (self .entry) .count) ⌝ }
+        ensures count { λ _. ⌜ now (self .exit) .count ≡ countClaimed (now (self .entry) .places) (now (self .entry) .count) ⌝ }
     {
         if self.count < self.places {
             let place = self.wrap(self.first + self.count);
@@ -54,11 +51,11 @@ impl Ring {
         }
     }
 
-    // Frees the oldest filled place, and answers which it is; where none is filled, nothing changes.
+    // Releases the oldest filled place, and answers which it is; where none is filled, nothing changes.
     pub fn release(&mut self) -> Option<usize>
-        ensures value { λ r. ⌜ r ≡ cond (ltb 0 (now (self .entry) .count)) (Some (now (self .entry) .first)) None ⌝ }
+        ensures value { λ r. ⌜ r ≡ releaseAnswer (now (self .entry) .first) (now (self .entry) .count) ⌝ }
         ensures places { λ _. ⌜ now (self .exit) .places ≡ now (self .entry) .places ⌝ }
-        ensures first { λ _. ⌜ now (self .exit) .first ≡ cond (ltb 0 (now (self .entry) .count)) (wrapped (now (self .entry) .places) (now (self .entry) .first + 1)) (now (self .entry) .first) ⌝ }
+        ensures first { λ _. ⌜ now (self .exit) .first ≡ firstReleased (now (self .entry) .places) (now (self .entry) .first) (now (self .entry) .count) ⌝ }
         ensures count { λ _. ⌜ now (self .exit) .count ≡ now (self .entry) .count - 1 ⌝ }
     {
         if self.count > 0 {
