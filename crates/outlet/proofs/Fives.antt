@@ -7,7 +7,6 @@ use native.Mathlib.Nat.{div-div-eq-div-mul}
 use borrow.Rule.Slice.PartMut.{putMid}
 use lib.ListN.{length, getD, set, take, drop}
 use lib.Seq.{drop-drop}
-use Rattle.std.proofs.shelf.Parts.{drop-putMid}
 use Rattle.formats.specs.declared.entry.SentEntry.{SentEntry}
 use Rattle.outlet.specs.Bytes.{packed, unpacked, entryFrom, entriesIn, pasted}
 
@@ -88,14 +87,6 @@ entries-pasted (a ∷ b ∷ c ∷ d ∷ e ∷ rest) (suc i) n f h =
 -- what a write to a part of a slice leaves is a paste
 pub pasted-part : (xs : List ℕ) (at k : ℕ) (new : List ℕ) → length new ≡ k → putMid at k xs new ≡ pasted xs at new
 pasted-part xs at k new e = ap (λ r. take at xs ++ (new ++ r)) (drop-drop k at xs ∙ ap (λ n. drop (at + n) xs) (sym e))
-
--- a paste leaves what lies past it
-pub past-paste : (xs : List ℕ) (at : ℕ) (new : List ℕ) (n : ℕ) → at + length new ≤ n → at ≤ length xs → drop n (pasted xs at new) ≡ drop n xs
-past-paste xs at new n h k = ap (drop n) (sym (pasted-part xs at (length new) new refl)) ∙ drop-putMid at (length new) xs new n h k refl
-
--- the bytes of a place lie inside
-pub five-inside : (bs : List ℕ) (i : ℕ) → i < length bs / 5 → 5 * i + 5 ≤ length bs
-five-inside bs i h = omega arith
 
 -- a list of five is its elements
 pub five-of : (bs : List ℕ) → length bs ≡ 5 → bs ≡ getD bs 0 0 ∷ getD bs 1 0 ∷ getD bs 2 0 ∷ getD bs 3 0 ∷ getD bs 4 0 ∷ []

@@ -5,15 +5,17 @@ use mathlib.Core.Bool.{cond}
 use mathlib.Core.List.{List}
 use native.Mathlib.Omega.{arith}
 use lib.Dec.{ltb}
-use lib.ListN.{length, getD, drop}
+use lib.ListN.{length, getD}
 use Rattle.std.proofs.shelf.Tests.{lt-ltb}
 use Rattle.std.specs.declared.option.Option.{Option}
 use Rattle.std.specs.declared.option.Option.the-variants.{Some, None}
 use Rattle.formats.specs.declared.entry.SentEntry.{SentEntry}
+use base.Fml.{GName}
+use Rattle.outlet.specs.Beside.{Beside, over, besideSent, besideTaken}
 use Rattle.outlet.specs.Bytes.{packed, entryFrom, entriesIn, pasted, bytesSent}
-use Rattle.outlet.specs.Ring.{wrapped, ringOf}
+use Rattle.outlet.specs.Ring.{wrapped, ringOf, countClaimed, firstReleased}
 use Rattle.outlet.specs.Waiting.{sent}
-use Rattle.outlet.proofs.Fives.{entries-length, entries-pasted, entry-at, five-inside, past-paste}
+use Rattle.outlet.proofs.Fives.{entries-length, entries-pasted, entry-at}
 use Rattle.outlet.proofs.Rings.{wrapped-inside}
 use Rattle.outlet.proofs.Turns.{claimed-room, claimed-place, sends, released-some, released-place}
 
@@ -34,13 +36,6 @@ module _ (bs : List ℕ) (places first count place : ℕ) (whole : places ≡ le
       ap (λ es. ringOf es first (count + 1)) (entries-pasted bs place e f (omega arith))
       ∙ sends (entriesIn bs) places first count place (l ∙ sym whole) inside v e
 
-  -- the bytes past the slots stay
-  pub image-beside : (e : SentEntry) (new : List ℕ) → length new ≡ length bs → new ≡ pasted bs (5 * place) (packed e) → drop (5 * (length new / 5)) new ≡ drop (5 * (length bs / 5)) bs
-  image-beside e new l n =
-      let h = claimed-inside in
-      ap (λ k. drop (5 * (k / 5)) new) l ∙ ap (drop (5 * (length bs / 5))) n
-      ∙ past-paste bs (5 * place) (packed e) (5 * (length bs / 5)) (omega arith) (omega arith)
-
   -- all bytes after it
   pub image-bytes : (e : SentEntry) → pasted bs (5 * place) (packed e) ≡ bytesSent bs (places - count) (wrapped places (first + count)) e
   image-bytes e =
@@ -55,3 +50,11 @@ image-takes bs places first count place d whole inside filled v =
     let p = released-place first count place v in
     let l = entries-length bs in
     entry-at bs place d (omega arith)
+
+-- what an outlet over bytes stands on after sending and taking
+module _ (buffer after : GName) (bs new : List ℕ) (places first count first′ count′ : ℕ) (whole : places ≡ length bs / 5) (named : after ≡ buffer) where
+  pub stands-sent : (e : SentEntry) → new ≡ bytesSent bs (places - count) (wrapped places (first + count)) e → first′ ≡ first → count′ ≡ countClaimed places count → over after new first′ count′ ≡ besideSent (over buffer bs first count) e
+  stands-sent e n f c = rw (named, n, f, c, whole)
+
+  pub stands-taken : new ≡ bs → first′ ≡ firstReleased places first count → count′ ≡ count - 1 → over after new first′ count′ ≡ besideTaken (over buffer bs first count)
+  stands-taken n f c = rw (named, n, f, c, whole)

@@ -4,9 +4,7 @@ use mathlib.Core.Bool.{cond}
 use mathlib.Core.List.{List, [], _∷_, _++_}
 use lib.Dec.{ltb}
 use lib.ListN.{length, getD, take, drop}
-use denote.Ref.{RefT}
 use Rattle.formats.specs.declared.entry.SentEntry.{SentEntry}
-use Rattle.outlet.specs.Beside.{Beside, over}
 
 -- the five bytes of an entry: its channel, then its word, most significant byte first
 abbrev pub packed : SentEntry → List ℕ
@@ -28,10 +26,6 @@ entriesIn (a ∷ b ∷ []) = []
 entriesIn (a ∷ b ∷ c ∷ []) = []
 entriesIn (a ∷ b ∷ c ∷ d ∷ []) = []
 entriesIn (a ∷ b ∷ c ∷ d ∷ e ∷ rest) = unpacked a b c d e ∷ entriesIn rest
-
--- beside them: the bytes past the last whole entry
-abbrev pub bytesBeside : RefT (List ℕ) → Beside
-bytesBeside bytes = over (bytes .name) (drop (5 * (length (bytes .now) / 5)) (bytes .now))
 
 -- a list with others in the place of as many of its elements, from a place on
 abbrev pub pasted : List ℕ → ℕ → List ℕ → List ℕ

@@ -4,8 +4,9 @@ ghost use mathlib.Core.Path.{_≡_};
 ghost use Prim.Native.Nat.{_/_};
 ghost use lib.ListN.{length};
 ghost use denote.Ref.{name, now as behind};
-ghost use Rattle.outlet.specs.Bytes.{entriesIn, bytesBeside, bytesSent};
-ghost use Rattle.outlet.specs.Places.{inRing, roomIn, nextPlace};
+ghost use Rattle.outlet.specs.Beside.{besideSent, besideTaken};
+ghost use Rattle.outlet.specs.Bytes.{entriesIn, bytesSent};
+ghost use Rattle.outlet.specs.Places.{inRing, roomIn, nextPlace, bytesBeside, Empty, Claimed, Released};
 ghost use Rattle.outlet.specs.Waiting.{sendAnswer, sent, roomSent, takeAnswer, taken, roomTaken};
 use crate::ring::Ring;
 use crate::slots::Slots;
@@ -29,6 +30,7 @@ impl<'a> ByteOutlet<'a> {
         ensures value { λ r. ⌜ now (r .slots .bytes) ≡ now (bytes .entry) ⌝ }
         ensures waiting { λ r. ⌜ inRing (entriesIn (now (r .slots .bytes))) (r .ring) ≡ [] ⌝ }
         ensures room { λ r. ⌜ roomIn (r .ring) ≡ length (now (bytes .entry)) / 5 ⌝ }
+        ensures ring { λ r. ⌜ Empty (length (now (bytes .entry)) / 5) (r .ring) ⌝ }
     {
         let places = bytes.len() / 5;
         ByteOutlet {
@@ -43,15 +45,17 @@ pub impl<'a> Outlet for ByteOutlet<'a> as ByteOutletOutlet {
 
     ghost room = { λ o. roomIn (o .ring) };
 
-    ghost beside = { λ o. bytesBeside (o .slots .bytes) };
+    ghost beside = { λ o. bytesBeside (o .slots .bytes) (o .ring) };
 
     // Beyond what every outlet promises: the entry's bytes go into the next slot, and all other bytes stay.
     fn send(&mut self, entry: SentEntry) -> Result<(), NoRoom>
         ensures value { λ r. ⌜ r ≡ sendAnswer (roomIn (now (self .entry) .ring)) ⌝ }
         ensures after { λ _. ⌜ inRing (entriesIn (now (now (self .exit) .slots .bytes))) (now (self .exit) .ring) ≡ sent (inRing (entriesIn (now (now (self .entry) .slots .bytes))) (now (self .entry) .ring)) (roomIn (now (self .entry) .ring)) entry ⌝ }
         ensures left { λ _. ⌜ roomIn (now (self .exit) .ring) ≡ roomSent (roomIn (now (self .entry) .ring)) ⌝ }
-        ensures same { λ _. ⌜ bytesBeside (now (self .exit) .slots .bytes) ≡ bytesBeside (now (self .entry) .slots .bytes) ⌝ }
+        ensures stands { λ _. ⌜ bytesBeside (now (self .exit) .slots .bytes) (now (self .exit) .ring) ≡ besideSent (bytesBeside (now (self .entry) .slots .bytes) (now (self .entry) .ring)) entry ⌝ }
         ensures buffer { λ _. ⌜ now (now (self .exit) .slots .bytes) ≡ bytesSent (now (now (self .entry) .slots .bytes)) (roomIn (now (self .entry) .ring)) (nextPlace (now (self .entry) .ring)) entry ⌝ }
+        ensures holds { λ _. ⌜ name (now (self .exit) .slots .bytes) ≡ name (now (self .entry) .slots .bytes) ⌝ }
+        ensures ring { λ _. ⌜ Claimed (now (self .entry) .ring) (now (self .exit) .ring) ⌝ }
     {
         match self.ring.claim() {
             Some(place) => {
@@ -67,8 +71,10 @@ pub impl<'a> Outlet for ByteOutlet<'a> as ByteOutletOutlet {
         ensures value { λ r. ⌜ r ≡ takeAnswer (inRing (entriesIn (now (now (self .entry) .slots .bytes))) (now (self .entry) .ring)) ⌝ }
         ensures after { λ _. ⌜ inRing (entriesIn (now (now (self .exit) .slots .bytes))) (now (self .exit) .ring) ≡ taken (inRing (entriesIn (now (now (self .entry) .slots .bytes))) (now (self .entry) .ring)) ⌝ }
         ensures left { λ _. ⌜ roomIn (now (self .exit) .ring) ≡ roomTaken (inRing (entriesIn (now (now (self .entry) .slots .bytes))) (now (self .entry) .ring)) (roomIn (now (self .entry) .ring)) ⌝ }
-        ensures same { λ _. ⌜ bytesBeside (now (self .exit) .slots .bytes) ≡ bytesBeside (now (self .entry) .slots .bytes) ⌝ }
+        ensures stands { λ _. ⌜ bytesBeside (now (self .exit) .slots .bytes) (now (self .exit) .ring) ≡ besideTaken (bytesBeside (now (self .entry) .slots .bytes) (now (self .entry) .ring)) ⌝ }
         ensures buffer { λ _. ⌜ now (now (self .exit) .slots .bytes) ≡ now (now (self .entry) .slots .bytes) ⌝ }
+        ensures holds { λ _. ⌜ name (now (self .exit) .slots .bytes) ≡ name (now (self .entry) .slots .bytes) ⌝ }
+        ensures ring { λ _. ⌜ Released (now (self .entry) .ring) (now (self .exit) .ring) ⌝ }
     {
         match self.ring.release() {
             Some(place) => Ok(self.slots.get(place)),

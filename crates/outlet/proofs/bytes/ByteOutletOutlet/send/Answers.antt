@@ -1,16 +1,13 @@
-use Prim.Native.Nat.{ℕ, _+_, _*_, _/_, _<_}
+use Prim.Native.Nat.{ℕ, _+_, _<_}
 use mathlib.Core.List.{List}
 use mathlib.Core.Path.{_≡_, refl, ap, _∙_}
 use native.Mathlib.Omega.{arith}
 use lib.Dec.{ltb}
-use lib.ListN.{length, drop}
 use Rattle.std.proofs.shelf.Tests.{lt-ltb}
-use base.Fml.{GName}
-use Rattle.outlet.specs.Beside.{Beside, over}
 use Rattle.outlet.specs.Bytes.{entriesIn}
 use Rattle.outlet.specs.Ring.{ringOf}
 use Rattle.outlet.proofs.Turns.{claimed-room, claimed-answer}
-use Rattle.outlet.proofs.Images.{image-sends, image-beside, image-bytes}
+use Rattle.outlet.proofs.Images.{image-sends, image-bytes, stands-sent}
 use Rattle.outlet.proofs.bytes.ByteOutletOutlet.send.Needs as need
 
 pub returns-in-Some : need.returns-in-Some
@@ -30,8 +27,11 @@ returns-in-Some c =
           ∙ ap (λ (bytes : List ℕ). ringOf (entriesIn bytes) (r .first) (r .count + 1)) (c .put .ensures .after)
           ∙ image-sends bs (r .places) (r .first) (r .count) (c .in-Some .place) (o .whole) (r .inside) v (c .args .entry) (omega arith);
       left = omega (arith, c .claim .ensures .places);
-      same = ap (over (c .put .last .self .bytes .name)) (image-beside bs (r .places) (r .first) (r .count) (c .in-Some .place) (o .whole) (r .inside) v (c .args .entry) new (c .put .ensures .len) (c .put .ensures .after))
-          ∙ ap (λ (g : GName). over g (drop (5 * (length bs / 5)) bs)) (c .put .ensures .holds);
+      stands = stands-sent (c .args .self .now .slots .bytes .name) (c .put .last .self .bytes .name) bs new (r .places) (r .first) (r .count) (c .claim .last .self .first) (c .claim .last .self .count) (o .whole) (c .put .ensures .holds) (c .args .entry)
+          (c .put .ensures .after ∙ image-bytes bs (r .places) (r .first) (r .count) (c .in-Some .place) (o .whole) (r .inside) v (c .args .entry))
+          (c .claim .ensures .first) (c .claim .ensures .count);
       buffer = c .put .ensures .after
           ∙ image-bytes bs (r .places) (r .first) (r .count) (c .in-Some .place) (o .whole) (r .inside) v (c .args .entry);
+      holds = c .put .ensures .holds;
+      ring = (c .claim .ensures .places, c .claim .ensures .first, c .claim .ensures .count);
     }

@@ -8,7 +8,7 @@ use Rattle.formats.specs.declared.entry.SentEntry.{SentEntry}
 use Rattle.outlet.specs.Bytes.{entriesIn}
 use Rattle.outlet.specs.Ring.{wrapped, ringOf}
 use Rattle.outlet.proofs.Fives.{entries-length}
-use Rattle.outlet.proofs.Images.{image-takes}
+use Rattle.outlet.proofs.Images.{image-takes, stands-taken}
 use Rattle.outlet.proofs.Turns.{released-some, takes, takes-rest, takes-room}
 use Rattle.outlet.proofs.bytes.ByteOutletOutlet.take.Needs as need
 
@@ -34,6 +34,8 @@ returns-in-Some c =
       left = ap (λ n. n - c .release .last .self .count) (c .release .ensures .places)
           ∙ ap (λ n. r .places - n) (c .release .ensures .count)
           ∙ takes-room (entriesIn bs) (r .places) (r .first) (r .count) (c .in-Some .place) none long (r .inside) (r .filled) v;
-      same = refl;
+      stands = stands-taken (c .args .self .now .slots .bytes .name) (c .args .self .now .slots .bytes .name) bs bs (r .places) (r .first) (r .count) (c .release .last .self .first) (c .release .last .self .count) (o .whole) refl refl (c .release .ensures .first) (c .release .ensures .count);
       buffer = refl;
+      holds = refl;
+      ring = (c .release .ensures .places, c .release .ensures .first, c .release .ensures .count);
     }

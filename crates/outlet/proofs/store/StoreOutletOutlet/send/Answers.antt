@@ -23,5 +23,5 @@ returns-in-Some c =
           ∙ ap (λ f. ringOf (set (o .entries) (c .in-Some .place) (c .args .entry)) f (r .count + 1)) (c .claim .ensures .first)
           ∙ sends (o .entries) (r .places) (r .first) (r .count) (c .in-Some .place) (o .long ∙ sym (o .whole)) (r .inside) v (c .args .entry);
       left = omega (arith, c .claim .ensures .places);
-      same = refl;
+      stands = refl;
     }

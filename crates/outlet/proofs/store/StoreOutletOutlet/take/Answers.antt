@@ -23,5 +23,5 @@ returns-in-Some c =
       left = ap (λ n. n - c .release .last .self .count) (c .release .ensures .places)
           ∙ ap (λ n. r .places - n) (c .release .ensures .count)
           ∙ takes-room (o .entries) (r .places) (r .first) (r .count) (c .in-Some .place) (record { channel = 0; word = 0 }) long (r .inside) (r .filled) v;
-      same = refl;
+      stands = refl;
     }
