@@ -1,12 +1,11 @@
 -- The entries that bytes hold: how many, which, and what pasting an entry's bytes makes of them.
 use Prim.Native.Nat.{ℕ, zero, suc, _+_, _*_, _/_, _%_, _<_, _≤_}
 use mathlib.Core.Path.{_≡_, refl, sym, _∙_, ap}
-use mathlib.Core.List.{List, [], _∷_, _++_}
+use mathlib.Core.List.{List, [], _∷_, _++_, append-assoc}
 use native.Mathlib.Omega.{arith}
 use native.Mathlib.Nat.{div-div-eq-div-mul}
-use borrow.Rule.Slice.PartMut.{putMid}
 use lib.ListN.{length, getD, set, take, drop}
-use lib.Seq.{drop-drop}
+use lib.Seq.{sets, sets-eq}
 use Rattle.formats.specs.declared.entry.SentEntry.{SentEntry}
 use Rattle.outlet.specs.Bytes.{packed, unpacked, entryFrom, entriesIn, pasted}
 
@@ -84,9 +83,14 @@ entries-pasted (a ∷ b ∷ c ∷ d ∷ e ∷ rest) (suc i) n f h =
     let k : i < length (entriesIn rest) = omega arith in
     rw (paste-past-five a b c d e rest i (packed n), entries-pasted rest i n f k)
 
--- what a write to a part of a slice leaves is a paste
-pub pasted-part : (xs : List ℕ) (at k : ℕ) (new : List ℕ) → length new ≡ k → putMid at k xs new ≡ pasted xs at new
-pasted-part xs at k new e = ap (λ r. take at xs ++ (new ++ r)) (drop-drop k at xs ∙ ap (λ n. drop (at + n) xs) (sym e))
+-- five elements written one behind the other are a paste
+pub pasted-five : (xs : List ℕ) (at a b c d e : ℕ) → at + 5 ≤ length xs → set (set (set (set (set xs at a) (at + 1) b) (at + 2) c) (at + 3) d) (at + 4) e ≡ pasted xs at (a ∷ b ∷ c ∷ d ∷ e ∷ [])
+pasted-five xs at a b c d e h =
+    let p1 : at + 1 ≡ suc at = omega arith in
+    let p2 : at + 2 ≡ suc (suc at) = omega arith in
+    let p3 : at + 3 ≡ suc (suc (suc at)) = omega arith in
+    let p4 : at + 4 ≡ suc (suc (suc (suc at))) = omega arith in
+    rw (p1, p2, p3, p4) (sets-eq (a ∷ b ∷ c ∷ d ∷ e ∷ []) xs at h ∙ append-assoc (take at xs) (a ∷ b ∷ c ∷ d ∷ e ∷ []) (drop (at + 5) xs))
 
 -- a list of five is its elements
 pub five-of : (bs : List ℕ) → length bs ≡ 5 → bs ≡ getD bs 0 0 ∷ getD bs 1 0 ∷ getD bs 2 0 ∷ getD bs 3 0 ∷ getD bs 4 0 ∷ []

@@ -5,7 +5,7 @@ use native.Mathlib.Omega.{arith}
 use lib.ListN.{getD}
 use Rattle.outlet.specs.Bytes.{packed, unpacked}
 use Rattle.outlet.proofs.Fives.{again}
-use Rattle.outlet.proofs.slots.pack.Needs as need
+use Rattle.outlet.proofs.codec.pack.Needs as need
 
 pub returns : need.returns
 returns c = record {

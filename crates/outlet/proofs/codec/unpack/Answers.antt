@@ -6,7 +6,7 @@ use lib.ListN.{getD, length}
 use Rattle.formats.specs.declared.entry.SentEntry.{SentEntry}
 use Rattle.outlet.specs.Bytes.{packed, unpacked, entryFrom}
 use Rattle.outlet.proofs.Fives.{back, five-of}
-use Rattle.outlet.proofs.slots.unpack.Needs as need
+use Rattle.outlet.proofs.codec.unpack.Needs as need
 
 -- the entry that is made
 made : (c : need.After-from-be-bytes) → _≡_ {A = SentEntry} (record { channel = getD (c .args .bytes) 0 0; word = c .from-be-bytes .result }) (entryFrom (c .args .bytes) 0)
