@@ -1,15 +1,21 @@
 -- What stands in the places of a ring: the entries that wait, the room, the place of the next entry; and the ring itself, empty and after each call.
 use Prim.Native.Nat.{ℕ, _+_, _-_}
 use mathlib.Core.List.{List}
-use denote.Ref.{RefT}
-use Rattle.outlet.specs.Beside.{Beside, over}
-use Rattle.outlet.specs.declared.ring.Ring.{Ring}
 use mathlib.Core.Path.{_≡_}
+use denote.Ref.{RefT}
+use Rattle.formats.specs.declared.entry.SentEntry.{SentEntry}
+use Rattle.outlet.specs.Beside.{Beside, over}
+use Rattle.outlet.specs.Bytes.{entriesIn}
+use Rattle.outlet.specs.declared.ring.Ring.{Ring}
 use Rattle.outlet.specs.Ring.{wrapped, ringOf, countClaimed, firstReleased}
 
 -- the entries that wait, oldest first
 abbrev pub inRing : {A : Type 0} → List A → Ring → List A
 inRing xs ring = ringOf xs (ring .first) (ring .count)
+
+-- those of an outlet over bytes
+abbrev pub waitingIn : RefT (List ℕ) → Ring → List SentEntry
+waitingIn bytes ring = inRing (entriesIn (bytes .now)) ring
 
 -- how many more there is room for
 abbrev pub roomIn : Ring → ℕ

@@ -5,8 +5,8 @@ ghost use Prim.Native.Nat.{_/_};
 ghost use lib.ListN.{length};
 ghost use denote.Ref.{name, now as behind};
 ghost use Rattle.outlet.specs.Beside.{besideSent, besideTaken};
-ghost use Rattle.outlet.specs.Bytes.{entriesIn, bytesSent};
-ghost use Rattle.outlet.specs.Places.{inRing, roomIn, nextPlace, bytesBeside, Empty, Claimed, Released};
+ghost use Rattle.outlet.specs.Bytes.{bytesSent};
+ghost use Rattle.outlet.specs.Places.{waitingIn, roomIn, nextPlace, bytesBeside, Empty, Claimed, Released};
 ghost use Rattle.outlet.specs.Waiting.{sendAnswer, sent, roomSent, takeAnswer, taken, roomTaken};
 use crate::codec::pack;
 use crate::codec::unpack;
@@ -29,7 +29,7 @@ impl<'a> ByteOutlet<'a> {
     pub fn new(bytes: &'a mut [u8]) -> ByteOutlet<'a>
         ensures holds { λ r. ⌜ name (r .bytes) ≡ name (bytes .entry) ⌝ }
         ensures value { λ r. ⌜ now (r .bytes) ≡ now (bytes .entry) ⌝ }
-        ensures waiting { λ r. ⌜ inRing (entriesIn (now (r .bytes))) (r .ring) ≡ [] ⌝ }
+        ensures waiting { λ r. ⌜ waitingIn (r .bytes) (r .ring) ≡ [] ⌝ }
         ensures room { λ r. ⌜ roomIn (r .ring) ≡ length (now (bytes .entry)) / 5 ⌝ }
         ensures ring { λ r. ⌜ Empty (length (now (bytes .entry)) / 5) (r .ring) ⌝ }
     {
@@ -42,7 +42,7 @@ impl<'a> ByteOutlet<'a> {
 }
 
 pub impl<'a> Outlet for ByteOutlet<'a> as ByteOutletOutlet {
-    ghost waiting = { λ o. inRing (entriesIn (behind (o .bytes))) (o .ring) };
+    ghost waiting = { λ o. waitingIn (o .bytes) (o .ring) };
 
     ghost room = { λ o. roomIn (o .ring) };
 
@@ -51,7 +51,7 @@ pub impl<'a> Outlet for ByteOutlet<'a> as ByteOutletOutlet {
     // Beyond what every outlet promises: the entry's bytes go into the next slot, and all other bytes stay.
     fn send(&mut self, entry: SentEntry) -> Result<(), NoRoom>
         ensures value { λ r. ⌜ r ≡ sendAnswer (roomIn (now (self .entry) .ring)) ⌝ }
-        ensures after { λ _. ⌜ inRing (entriesIn (now (now (self .exit) .bytes))) (now (self .exit) .ring) ≡ sent (inRing (entriesIn (now (now (self .entry) .bytes))) (now (self .entry) .ring)) (roomIn (now (self .entry) .ring)) entry ⌝ }
+        ensures after { λ _. ⌜ waitingIn (now (self .exit) .bytes) (now (self .exit) .ring) ≡ sent (waitingIn (now (self .entry) .bytes) (now (self .entry) .ring)) (roomIn (now (self .entry) .ring)) entry ⌝ }
         ensures left { λ _. ⌜ roomIn (now (self .exit) .ring) ≡ roomSent (roomIn (now (self .entry) .ring)) ⌝ }
         ensures stands { λ _. ⌜ bytesBeside (now (self .exit) .bytes) (now (self .exit) .ring) ≡ besideSent (bytesBeside (now (self .entry) .bytes) (now (self .entry) .ring)) entry ⌝ }
         ensures buffer { λ _. ⌜ now (now (self .exit) .bytes) ≡ bytesSent (now (now (self .entry) .bytes)) (roomIn (now (self .entry) .ring)) (nextPlace (now (self .entry) .ring)) entry ⌝ }
@@ -75,9 +75,9 @@ pub impl<'a> Outlet for ByteOutlet<'a> as ByteOutletOutlet {
 
     // Beyond what every outlet promises: no byte changes.
     fn take(&mut self) -> Result<SentEntry, NothingWaits>
-        ensures value { λ r. ⌜ r ≡ takeAnswer (inRing (entriesIn (now (now (self .entry) .bytes))) (now (self .entry) .ring)) ⌝ }
-        ensures after { λ _. ⌜ inRing (entriesIn (now (now (self .exit) .bytes))) (now (self .exit) .ring) ≡ taken (inRing (entriesIn (now (now (self .entry) .bytes))) (now (self .entry) .ring)) ⌝ }
-        ensures left { λ _. ⌜ roomIn (now (self .exit) .ring) ≡ roomTaken (inRing (entriesIn (now (now (self .entry) .bytes))) (now (self .entry) .ring)) (roomIn (now (self .entry) .ring)) ⌝ }
+        ensures value { λ r. ⌜ r ≡ takeAnswer (waitingIn (now (self .entry) .bytes) (now (self .entry) .ring)) ⌝ }
+        ensures after { λ _. ⌜ waitingIn (now (self .exit) .bytes) (now (self .exit) .ring) ≡ taken (waitingIn (now (self .entry) .bytes) (now (self .entry) .ring)) ⌝ }
+        ensures left { λ _. ⌜ roomIn (now (self .exit) .ring) ≡ roomTaken (waitingIn (now (self .entry) .bytes) (now (self .entry) .ring)) (roomIn (now (self .entry) .ring)) ⌝ }
         ensures stands { λ _. ⌜ bytesBeside (now (self .exit) .bytes) (now (self .exit) .ring) ≡ besideTaken (bytesBeside (now (self .entry) .bytes) (now (self .entry) .ring)) ⌝ }
         ensures buffer { λ _. ⌜ now (now (self .exit) .bytes) ≡ now (now (self .entry) .bytes) ⌝ }
         ensures holds { λ _. ⌜ name (now (self .exit) .bytes) ≡ name (now (self .entry) .bytes) ⌝ }

@@ -15,7 +15,7 @@ const PLACES: usize = 64;
 
 #[derive(Drop)]
 pub struct StoreOutlet {
-    entries: [SentEntry; 64],
+    entries: [SentEntry; PLACES],
     ring: Ring,
     ghost long: { length entries ≡ 64 },
     ghost whole: { ring .places ≡ 64 },
@@ -32,7 +32,7 @@ impl StoreOutlet {
             word: 0,
         };
         StoreOutlet {
-            entries: [none; 64],
+            entries: [none; PLACES],
             ring: Ring::new(PLACES),
         }
     }
