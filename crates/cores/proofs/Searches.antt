@@ -12,11 +12,7 @@ use Rattle.std.specs.declared.option.Option.{Option}
 use Rattle.std.specs.declared.option.Option.the-variants.{Some, None}
 use Rattle.std.proofs.shelf.Lists.{getD-default}
 use Rattle.model.specs.declared.place.Line.{Line}
-use Rattle.cores.specs.Buffers.{later, firstIndex}
-
--- what stands for a line past the end
-abbrev pub noLine : Line
-noLine = record { address = 0; value = 0; tag = false; dirty = false }
+use Rattle.cores.specs.Buffers.{noLine, later, firstIndex}
 
 -- the first line that passes
 pub first-here : (test : Line → Bool) (ls : List Line) (i : ℕ) → i < length ls → ((k : ℕ) → k < i → test (getD ls k noLine) ≡ false) → test (getD ls i noLine) ≡ true → Some i ≡ firstIndex test ls

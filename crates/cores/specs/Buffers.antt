@@ -2,12 +2,13 @@
 --   linesOf     the lines in use, oldest first
 --   firstIndex  where the first line that passes a test stands
 --   indexOf     where the line at an address stands;  dirtyIndex  where the oldest dirty line stands
+--   lineAt      the line at a place of the list;  tagsOf  the addresses of the tagged lines
 -- Assumes nothing.
-use mathlib.Core.Bool.{Bool, cond}
+use mathlib.Core.Bool.{Bool, false, cond}
 use mathlib.Core.List.{List, [], _∷_}
 use Prim.Native.Nat.{ℕ, suc}
 use lib.Dec.{eqb}
-use lib.ListN.{take}
+use lib.ListN.{getD, take}
 use Rattle.std.specs.declared.option.Option.{Option}
 use Rattle.std.specs.declared.option.Option.the-variants.{Some, None}
 use Rattle.model.specs.declared.place.Line.{Line}
@@ -34,3 +35,16 @@ indexOf ls a = firstIndex (λ l. eqb (l .address) a) ls
 -- where the oldest dirty line stands
 abbrev pub dirtyIndex : List Line → Option ℕ
 dirtyIndex ls = firstIndex (λ l. l .dirty) ls
+
+-- what stands for a line past the end
+abbrev pub noLine : Line
+noLine = record { address = 0; value = 0; tag = false; dirty = false }
+
+-- the line at a place of the list
+abbrev pub lineAt : List Line → ℕ → Line
+lineAt ls i = getD ls i noLine
+
+-- the addresses of the tagged lines, oldest first
+abbrev pub tagsOf : List Line → List ℕ
+tagsOf [] = []
+tagsOf (l ∷ ls) = cond (l .tag) (l .address ∷ tagsOf ls) (tagsOf ls)

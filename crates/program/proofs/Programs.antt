@@ -11,18 +11,18 @@ use native.Mathlib.Omega.{arith}
 use lib.Dec.{ltb, leb, eqb}
 use lib.ListN.{length, getD, take, set, length-set}
 use lib.Seq.{getD-take, take-suc-set, length-take-le}
-use borrow.Author.Tests.{lt-ltb, leb-true}
+use borrow.Author.Tests.{lt-ltb, ltb-true, leb-true}
 use Rattle.std.specs.declared.option.Option.the-variants.{Some}
 use Rattle.std.specs.declared.result.Result.{Result}
 use Rattle.std.specs.declared.result.Result.the-variants.{Ok, Err}
-use Rattle.std.proofs.shelf.Lists.{getD-default}
-use Rattle.std.proofs.shelf.Tests.{cases-bool, and-parts, and-from}
+use Rattle.std.proofs.shelf.Lists.{getD-default, getD-past}
+use Rattle.std.proofs.shelf.Tests.{cases-bool, cases-lt, cases-eq, both-ways, and-parts, and-from}
 use Rattle.answers.specs.declared.refusal.InstructionFault.{InstructionFault}
 use Rattle.answers.specs.declared.refusal.ListRefusal.{ListRefusal}
 use Rattle.answers.specs.declared.refusal.ProgramFault.the-variants.{NoEnd}
 use Rattle.answers.specs.declared.refusal.ProgramRefusal.{ProgramRefusal}
 use Rattle.formats.specs.declared.instruction.Instruction.{Instruction}
-use Rattle.formats.specs.declared.instruction.Instruction.the-variants.{Halt}
+use Rattle.formats.specs.declared.instruction.Instruction.the-variants.{Halt, Set, Add, Sub, Mean, Load, Store, Jump, Jz, Jlt, Begin, End, Retry, Early, Out}
 use Rattle.formats.specs.Instructions.{bytesInstruction}
 use Rattle.packed.specs.List.{entryAt}
 use Rattle.program.specs.Accepted.{targetInside, targetsInside, ends, lastOf}
@@ -138,3 +138,44 @@ module _ (bytes : List ℕ) (good : goodCount (length bytes) ≡ true) where
       let p = and-parts (eqb (length bytes % 4) 0) (leb 4 (length bytes) && leb (length bytes) 2048) good in
       let q = and-parts (leb 4 (length bytes)) (leb (length bytes) 2048) (p .1) in
       (omega (arith, leb-true 4 (length bytes) (q .0)), omega (arith, leb-true (length bytes) 2048 (q .1)))
+
+-- a jump below a count is below a greater one
+inside-more : (count more : ℕ) → count ≤ more → (i : Instruction) → targetInside count i ≡ true → targetInside more i ≡ true
+inside-more count more h Halt t = refl
+inside-more count more h (Set d n) t = refl
+inside-more count more h (Add d a b) t = refl
+inside-more count more h (Sub d a b) t = refl
+inside-more count more h (Mean d a b) t = refl
+inside-more count more h (Load d a n) t = refl
+inside-more count more h (Store a b n) t = refl
+inside-more count more h (Jump n) t = lt-ltb (n .value) more (omega (arith, ltb-true (n .value) count t))
+inside-more count more h (Jz a n) t = lt-ltb (n .value) more (omega (arith, ltb-true (n .value) count t))
+inside-more count more h (Jlt a b n) t = lt-ltb (n .value) more (omega (arith, ltb-true (n .value) count t))
+inside-more count more h Begin t = refl
+inside-more count more h End t = refl
+inside-more count more h Retry t = refl
+inside-more count more h Early t = refl
+inside-more count more h (Out a channel) t = refl
+
+inside-at : (count : ℕ) (is : List Instruction) (k : ℕ) → targetsInside count is ≡ true → targetInside count (getD is k Halt) ≡ true
+inside-at count [] k t = refl
+inside-at count (i ∷ is) zero t = and-parts (targetInside count i) (targetsInside count is) t .0
+inside-at count (i ∷ is) (suc k) t = inside-at count is k (and-parts (targetInside count i) (targetsInside count is) t .1)
+
+-- what holds of each instruction of an accepted program
+module _ (is : List Instruction) (count : ℕ) (few : count ≤ 512) (sized : length is ≡ 512) where
+  -- its jump stays below 512
+  pub jumps-below : (k : ℕ) → targetsInside count (take count is) ≡ true → targetInside 512 (getD (take count is) k Halt) ≡ true
+  jumps-below k t = inside-more count 512 few (getD (take count is) k Halt) (inside-at count (take count is) k t)
+
+  -- and there is a next place where it goes on
+  pub goes-on : (k : ℕ) → 0 < count → ends (lastOf (take count is)) ≡ true → ends (getD (take count is) k Halt) ≡ false → k < 511
+  goes-on k some last on =
+      let long = length-take-le count is (omega arith) in
+      elim (cases-lt k (count - 1)) [
+        | inl lt ↦ omega arith
+        | inr le ↦ absurd (both-ways (ends (getD (take count is) k Halt)) on (elim (cases-eq k (length (take count is) - 1)) [
+            | inl e ↦ ap (λ n. ends (getD (take count is) n Halt)) e ∙ last
+            | inr ne ↦ ap ends (getD-past (take count is) k Halt (omega arith))
+          ]))
+      ]

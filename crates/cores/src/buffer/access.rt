@@ -1,28 +1,31 @@
-// Looking up, storing to and flushing the lines of a write buffer.
+// Looking up the lines of a write buffer.
 ghost use mathlib.Core.Path.{_≡_};
-ghost use mathlib.Core.Bool.{Bool, cond};
-ghost use mathlib.Core.List.{[], _∷_, _++_};
-ghost use lib.Dec.{ltb};
+ghost use mathlib.Core.List.{[]};
 ghost use lib.ListN.{length};
-ghost use Rattle.model.specs.Lines.{tagged, anyDirty, holds, valueAt, storeAt, wrote, left};
-ghost use Rattle.cores.specs.Buffers.{linesOf, indexOf, dirtyIndex};
-ghost use Rattle.std.specs.Options.{Cases as BySome};
+ghost use Rattle.model.specs.Lines.{tagged, anyDirty};
+ghost use Rattle.cores.specs.Buffers.{linesOf, indexOf, dirtyIndex, noLine, lineAt};
 use super::Buffer;
-use model::effect::Effect;
 use model::place::Line;
 
+// What stands where no line is in use.
+fn blank() -> Line
+    ensures { λ r. ⌜ r ≡ noLine ⌝ }
+{
+    Line {
+        address: 0,
+        value: 0,
+        tag: false,
+        dirty: false,
+    }
+}
+
 impl Buffer {
+    // A buffer with no line in use.
     pub fn new() -> Buffer
         ensures { λ r. ⌜ linesOf r ≡ [] ⌝ }
     {
-        let blank = Line {
-            address: 0,
-            value: 0,
-            tag: false,
-            dirty: false,
-        };
         Buffer {
-            lines: [blank; 32],
+            lines: [blank(); 32],
             used: 0,
         }
     }
@@ -56,5 +59,33 @@ impl Buffer {
             }
         }
         None
+    }
+
+    // The line at a place of the buffer, blank past the last.
+    pub fn line(&self, index: usize) -> Line
+        ensures { λ r. ⌜ r ≡ lineAt (linesOf (now (self .entry))) index ⌝ }
+    {
+        if index < self.used {
+            self.lines[index]
+        } else {
+            blank()
+        }
+    }
+
+    // Whether a line is dirty.
+    pub fn any_dirty(&self) -> bool
+        ensures { λ r. ⌜ r ≡ anyDirty (linesOf (now (self .entry))) ⌝ }
+    {
+        self.first_dirty().is_some()
+    }
+
+    // Whether there is a line at an address with its read tag set.
+    pub fn tagged(&self, address: usize) -> bool
+        ensures { λ r. ⌜ r ≡ tagged (linesOf (now (self .entry))) address ⌝ }
+    {
+        match self.find(address) {
+            Some(index) => self.line(index).tag,
+            None => false,
+        }
     }
 }

@@ -1,6 +1,10 @@
 // Looking at an accepted program.
 ghost use mathlib.Core.Path.{_≡_};
-ghost use lib.ListN.{length};
+ghost use mathlib.Core.Bool.{true, false};
+ghost use Prim.Native.Nat.{_<_};
+ghost use lib.ListN.{length, getD};
+ghost use Rattle.formats.specs.declared.instruction.Instruction.the-variants.{Halt};
+ghost use Rattle.program.specs.Accepted.{targetInside, ends};
 ghost use Rattle.program.specs.Programs.{instructionsOf, instructionIn};
 use super::Program;
 use formats::instruction::Instruction;
@@ -21,6 +25,19 @@ impl Program {
             Some(self.instructions[place])
         } else {
             None
+        }
+    }
+    // The instruction at a place, HALT past the last. A jump of it stays below 512, and one that goes on with the next
+    // instruction has a next place to go on at.
+    pub fn at(&self, pc: usize) -> Instruction
+        ensures value { λ r. ⌜ r ≡ getD (instructionsOf (now (self .entry))) pc Halt ⌝ }
+        ensures targets { λ r. ⌜ targetInside 512 r ≡ true ⌝ }
+        ensures onward { λ r. ⌜ (ends r ≡ false → pc < 511) ⌝ }
+    {
+        if pc < self.count {
+            self.instructions[pc]
+        } else {
+            Instruction::Halt
         }
     }
 }

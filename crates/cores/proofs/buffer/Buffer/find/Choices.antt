@@ -3,7 +3,7 @@ use mathlib.Core.Path.{_≡_}
 use mathlib.Core.Bool.{false}
 use lib.Dec.{eqb}
 use lib.ListN.{getD}
-use Rattle.cores.proofs.Searches.{noLine}
+use Rattle.cores.specs.Buffers.{noLine}
 use Rattle.cores.proofs.buffer.Buffer.find.Given as given
 
 abbrev pub Inv-loop-i : given.InvT-loop-i

@@ -2,7 +2,7 @@ use Prim.Native.Nat.{ℕ, _<_}
 use mathlib.Core.Path.{_≡_}
 use mathlib.Core.Bool.{false}
 use lib.ListN.{getD}
-use Rattle.cores.proofs.Searches.{noLine}
+use Rattle.cores.specs.Buffers.{noLine}
 use Rattle.cores.proofs.buffer.Buffer.first_dirty.Given as given
 
 abbrev pub Inv-loop-i : given.InvT-loop-i
