@@ -1,4 +1,4 @@
-pub mod Fives
 pub mod Images
 pub mod Rings
+pub mod Slots
 pub mod Turns

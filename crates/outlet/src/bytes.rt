@@ -1,4 +1,4 @@
-// An outlet over handed-in bytes, five to an entry: its channel, then its word, most significant byte first.
+// An outlet over handed-in bytes, which are a packed list of entries, five bytes to each.
 ghost use mathlib.Core.List.{[]};
 ghost use mathlib.Core.Path.{_≡_};
 ghost use Prim.Native.Nat.{_/_};
@@ -8,9 +8,9 @@ ghost use Rattle.outlet.specs.Beside.{besideSent, besideTaken};
 ghost use Rattle.outlet.specs.Bytes.{bytesSent};
 ghost use Rattle.outlet.specs.Places.{waitingIn, roomIn, nextPlace, bytesBeside, Empty, Claimed, Released};
 ghost use Rattle.outlet.specs.Waiting.{sendAnswer, sent, roomSent, takeAnswer, taken, roomTaken};
-use crate::codec::pack;
-use crate::codec::unpack;
 use crate::ring::Ring;
+use crate::slot::bytes_of;
+use crate::slot::entry_of;
 use crate::waiting::Outlet;
 use answers::refusal::NoRoom;
 use answers::refusal::NothingWaits;
@@ -61,12 +61,12 @@ pub impl<'a> Outlet for ByteOutlet<'a> as ByteOutletOutlet {
         match self.ring.claim() {
             Some(place) => {
                 let at = 5 * place;
-                let [channel, a, b, c, d] = pack(entry);
-                self.bytes[at] = channel;
-                self.bytes[at + 1] = a;
-                self.bytes[at + 2] = b;
-                self.bytes[at + 3] = c;
-                self.bytes[at + 4] = d;
+                let [a, b, c, d, e] = bytes_of(entry);
+                self.bytes[at] = a;
+                self.bytes[at + 1] = b;
+                self.bytes[at + 2] = c;
+                self.bytes[at + 3] = d;
+                self.bytes[at + 4] = e;
                 Ok(())
             }
             None => Err(NoRoom),
@@ -86,7 +86,7 @@ pub impl<'a> Outlet for ByteOutlet<'a> as ByteOutletOutlet {
         match self.ring.release() {
             Some(place) => {
                 let at = 5 * place;
-                Ok(unpack([
+                Ok(entry_of([
                     self.bytes[at],
                     self.bytes[at + 1],
                     self.bytes[at + 2],

@@ -9,6 +9,8 @@ use crate::waiting::Outlet;
 use answers::refusal::NoRoom;
 use answers::refusal::NothingWaits;
 use formats::entry::SentEntry;
+use formats::packed::PackedEntry;
+use formats::sent::PackedSent;
 
 // How many entries the store has room for.
 const PLACES: usize = 64;
@@ -27,10 +29,7 @@ impl StoreOutlet {
         ensures waiting { λ r. ⌜ inRing (r .entries) (r .ring) ≡ [] ⌝ }
         ensures room { λ r. ⌜ roomIn (r .ring) ≡ 64 ⌝ }
     {
-        let none = SentEntry {
-            channel: 0,
-            word: 0,
-        };
+        let Ok(none) = SentEntry::unpack(0);
         StoreOutlet {
             entries: [none; PLACES],
             ring: Ring::new(PLACES),

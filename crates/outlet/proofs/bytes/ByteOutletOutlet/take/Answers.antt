@@ -1,20 +1,23 @@
-use Prim.Native.Nat.{_+_, _-_, _<_}
+use Prim.Native.Nat.{ℕ, _+_, _-_, _<_}
+use mathlib.Core.List.{List}
 use mathlib.Core.Path.{_≡_, refl, ap, sym, _∙_}
 use native.Mathlib.Omega.{arith}
 use lib.Dec.{ltb}
 use Rattle.std.proofs.shelf.Tests.{lt-ltb}
 use Rattle.std.specs.declared.result.Result.the-variants.{Ok}
 use Rattle.formats.specs.declared.entry.SentEntry.{SentEntry}
+use Rattle.formats.specs.Bytes.{spelled}
+use Rattle.formats.specs.Sents.{sentOf}
 use Rattle.outlet.specs.Bytes.{entriesIn}
 use Rattle.outlet.specs.Ring.{wrapped, ringOf}
-use Rattle.outlet.proofs.Fives.{entries-length}
-use Rattle.outlet.proofs.Images.{image-takes, stands-taken}
+use Rattle.outlet.proofs.Images.{released-inside, image-takes, stands-taken}
+use Rattle.outlet.proofs.Slots.{entries-length, five-read}
 use Rattle.outlet.proofs.Turns.{released-some, takes, takes-rest, takes-room}
 use Rattle.outlet.proofs.bytes.ByteOutletOutlet.take.Needs as need
 
 -- some entry
 none : SentEntry
-none = record { channel = 0; word = 0 }
+none = sentOf 0
 
 pub returns-in-Some : need.returns-in-Some
 returns-in-Some c =
@@ -26,7 +29,7 @@ returns-in-Some c =
     let t = lt-ltb 0 (r .count) (released-some (r .first) (r .count) (c .in-Some .place) v) in
     let f : c .release .last .self .first ≡ wrapped (r .places) (r .first + 1) = c .release .ensures .first ∙ rw t in
     record {
-      value = ap Ok (c .unpack .ensures .value ∙ image-takes bs (r .places) (r .first) (r .count) (c .in-Some .place) none (o .whole) (r .inside) (r .filled) v)
+      value = ap Ok (c .entry-of .ensures ∙ ap (λ (l : List ℕ). sentOf (spelled l)) (five-read bs (c .in-Some .place) (released-inside bs (r .places) (r .first) (r .count) (c .in-Some .place) (o .whole) (r .inside) (r .filled) v)) ∙ image-takes bs (r .places) (r .first) (r .count) (c .in-Some .place) (o .whole) (r .inside) (r .filled) v none)
           ∙ takes (entriesIn bs) (r .places) (r .first) (r .count) (c .in-Some .place) none long (r .inside) (r .filled) v;
       after = ap (λ i. ringOf (entriesIn bs) i (c .release .last .self .count)) f
           ∙ ap (ringOf (entriesIn bs) (wrapped (r .places) (r .first + 1))) (c .release .ensures .count)

@@ -15,13 +15,14 @@ returns-in-Some c =
     let long = o .long ∙ sym (o .whole) in
     let t = lt-ltb 0 (r .count) (released-some (r .first) (r .count) (c .in-Some .place) v) in
     let f : c .release .last .self .first ≡ wrapped (r .places) (r .first + 1) = c .release .ensures .first ∙ rw t in
+    let d = c .index-self-place .result in
     record {
-      value = takes (o .entries) (r .places) (r .first) (r .count) (c .in-Some .place) (record { channel = 0; word = 0 }) long (r .inside) (r .filled) v;
+      value = takes (o .entries) (r .places) (r .first) (r .count) (c .in-Some .place) d long (r .inside) (r .filled) v;
       after = ap (λ i. ringOf (o .entries) i (c .release .last .self .count)) f
           ∙ ap (ringOf (o .entries) (wrapped (r .places) (r .first + 1))) (c .release .ensures .count)
-          ∙ takes-rest (o .entries) (r .places) (r .first) (r .count) (c .in-Some .place) (record { channel = 0; word = 0 }) long (r .inside) (r .filled) v;
+          ∙ takes-rest (o .entries) (r .places) (r .first) (r .count) (c .in-Some .place) d long (r .inside) (r .filled) v;
       left = ap (λ n. n - c .release .last .self .count) (c .release .ensures .places)
           ∙ ap (λ n. r .places - n) (c .release .ensures .count)
-          ∙ takes-room (o .entries) (r .places) (r .first) (r .count) (c .in-Some .place) (record { channel = 0; word = 0 }) long (r .inside) (r .filled) v;
+          ∙ takes-room (o .entries) (r .places) (r .first) (r .count) (c .in-Some .place) d long (r .inside) (r .filled) v;
       stands = refl;
     }
