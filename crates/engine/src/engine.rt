@@ -10,6 +10,7 @@ use outlet::waiting::Outlet;
 use program::program::Program;
 
 mod calls;
+mod making;
 
 // The host changes an engine only by its calls.
 pub struct Engine<M: Memory, O: Outlet> {
