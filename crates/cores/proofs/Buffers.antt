@@ -51,23 +51,23 @@ found [] a i h = no-index i h
 found (l ∷ ls) a i h =
     elim (cases-bool (eqb (l .address) a)) [
       | inl t ↦
-        let first : i ≡ 0 = same-index 0 i (rw t at h) in
-        rw first (record { within = omega arith; there = eqb-true (l .address) a t; held = rw t; worth = rw t; stored = λ w. rw t })
+          let first : i ≡ 0 = same-index 0 i (rw t at h) in
+          rw first (record { within = omega arith; there = eqb-true (l .address) a t; held = rw t; worth = rw t; stored = λ w. rw t })
       | inr t ↦
-        let p = later-some (indexOf ls a) i (rw t at h) in
-        let rest = found ls a (p .0) (p .1) in
-        let next : i ≡ suc (p .0) = p .2 in
-        rw next (record {
-          within = omega (arith, rest .within);
-          there = rest .there;
-          held = rw t (rest .held);
-          worth = rw t (rest .worth);
-          stored = λ w. rw t (ap (λ x. l ∷ x) (rest .stored w));
-        })
+          let p = later-some (indexOf ls a) i (rw t at h) in
+          let rest = found ls a (p .0) (p .1) in
+          let next : i ≡ suc (p .0) = p .2 in
+          rw next (record {
+            within = omega (arith, rest .within);
+            there = rest .there;
+            held = rw t (rest .held);
+            worth = rw t (rest .worth);
+            stored = λ w. rw t (ap (λ x. l ∷ x) (rest .stored w));
+          })
     ]
 
 -- where no line is, none is tagged
-untagged : (ls : List Line) (a : ℕ) → holds ls a ≡ false → tagged ls a ≡ false
+pub untagged : (ls : List Line) (a : ℕ) → holds ls a ≡ false → tagged ls a ≡ false
 untagged [] a h = refl
 untagged (l ∷ ls) a h = let p = or-parts (eqb (l .address) a) (holds ls a) h in rw (p .0) (untagged ls a (p .1))
 
@@ -94,13 +94,13 @@ found-tag (l ∷ ls) a i d h =
     let apart = and-parts (not (holds ls (l .address))) (distinct ls) d in
     elim (cases-bool (eqb (l .address) a)) [
       | inl t ↦
-        let first : i ≡ 0 = same-index 0 i (rw t at h) in
-        let none : holds ls a ≡ false = ap (holds ls) (sym (eqb-true (l .address) a t)) ∙ not-true _ (apart .0) in
-        rw (first, t, untagged ls a none) (or-false (l .tag))
+          let first : i ≡ 0 = same-index 0 i (rw t at h) in
+          let none : holds ls a ≡ false = ap (holds ls) (sym (eqb-true (l .address) a t)) ∙ not-true _ (apart .0) in
+          rw (first, t, untagged ls a none) (or-false (l .tag))
       | inr t ↦
-        let p = later-some (indexOf ls a) i (rw t at h) in
-        let next : i ≡ suc (p .0) = p .2 in
-        rw (next, t) (found-tag ls a (p .0) (apart .1) (p .1))
+          let p = later-some (indexOf ls a) i (rw t at h) in
+          let next : i ≡ suc (p .0) = p .2 in
+          rw (next, t) (found-tag ls a (p .0) (apart .1) (p .1))
     ]
 
 -- the oldest dirty line
@@ -115,18 +115,18 @@ oldest [] i h = no-index i h
 oldest (l ∷ ls) i h =
     elim (cases-bool (l .dirty)) [
       | inl t ↦
-        let first : i ≡ 0 = same-index 0 i (rw t at h) in
-        rw first (record { within = omega arith; some = rw t; writes = rw t; rest = rw t })
+          let first : i ≡ 0 = same-index 0 i (rw t at h) in
+          rw first (record { within = omega arith; some = rw t; writes = rw t; rest = rw t })
       | inr t ↦
-        let p = later-some (dirtyIndex ls) i (rw t at h) in
-        let rest = oldest ls (p .0) (p .1) in
-        let next : i ≡ suc (p .0) = p .2 in
-        rw next (record {
-          within = omega (arith, rest .within);
-          some = rw t (rest .some);
-          writes = rw t (rest .writes);
-          rest = cond-false (l .dirty) _ _ t ∙ ap (λ x. l ∷ x) (rest .rest);
-        })
+          let p = later-some (dirtyIndex ls) i (rw t at h) in
+          let rest = oldest ls (p .0) (p .1) in
+          let next : i ≡ suc (p .0) = p .2 in
+          rw next (record {
+            within = omega (arith, rest .within);
+            some = rw t (rest .some);
+            writes = rw t (rest .writes);
+            rest = cond-false (l .dirty) _ _ t ∙ ap (λ x. l ∷ x) (rest .rest);
+          })
     ]
 
 -- no line is dirty
@@ -141,8 +141,8 @@ clean (l ∷ ls) h =
     elim (cases-bool (l .dirty)) [
       | inl t ↦ no-none 0 (rw t at h)
       | inr t ↦
-        let rest = clean ls (later-none (dirtyIndex ls) (rw t at h)) in
-        record { none = rw t (rest .none); silent = rw t (rest .silent); same = cond-false (l .dirty) _ _ t ∙ ap (λ x. l ∷ x) (rest .same) }
+          let rest = clean ls (later-none (dirtyIndex ls) (rw t at h)) in
+          record { none = rw t (rest .none); silent = rw t (rest .silent); same = cond-false (l .dirty) _ _ t ∙ ap (λ x. l ∷ x) (rest .same) }
     ]
 
 -- lines that change but stay where they are

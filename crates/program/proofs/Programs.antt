@@ -175,7 +175,7 @@ module _ (is : List Instruction) (count : ℕ) (few : count ≤ 512) (sized : le
       elim (cases-lt k (count - 1)) [
         | inl lt ↦ omega arith
         | inr le ↦ absurd (both-ways (ends (getD (take count is) k Halt)) on (elim (cases-eq k (length (take count is) - 1)) [
-            | inl e ↦ ap (λ n. ends (getD (take count is) n Halt)) e ∙ last
-            | inr ne ↦ ap ends (getD-past (take count is) k Halt (omega arith))
-          ]))
+          | inl e ↦ ap (λ n. ends (getD (take count is) n Halt)) e ∙ last
+          | inr ne ↦ ap ends (getD-past (take count is) k Halt (omega arith))
+        ]))
       ]
