@@ -1,18 +1,22 @@
 -- Telling the other cores of a write, one core after the other.
 -- Assumes nothing.
 use mathlib.Core.Path.{_≡_, refl, ap, sym, _∙_}
+use mathlib.Core.Bool.{true, false, _&&_}
 use mathlib.Core.List.{List, [], _∷_, _++_, map, append-assoc, append-nil}
 use Prim.Native.Nat.{ℕ, zero, suc, _+_, _<_, _≤_}
 use native.Mathlib.Nat.{le-of-suc-le-suc}
 use native.Mathlib.Omega.{arith}
-use lib.ListN.{length, getD, take, drop, set}
+use lib.Dec.{ltb, leb}
+use lib.ListN.{length, getD, take, drop, set, length-set}
+use borrow.Author.Tests.{lt-ltb, le-ltb, le-leb}
 use lib.Seq.{length-take-le, map-set, set-at, getD-at, take-all}
-use Rattle.std.proofs.shelf.Lists.{length-map, take-more, drop-more, drop-all, getD-map}
+use Rattle.std.proofs.shelf.Lists.{length-map, take-more, take-more-set, drop-more, drop-all, getD-map, map-push}
+use Rattle.std.proofs.shelf.Tests.{and-from, and-parts, and-left, and-right}
 use Rattle.model.specs.Cores.{Core as ModelCore}
-use Rattle.model.specs.Engine.{blank}
+use Rattle.model.specs.Engine.{blank, allBelow, newCore}
 use Rattle.cores.specs.declared.unit.Core.{Core}
 use Rattle.cores.specs.Units.{coreOf}
-use Rattle.bank.specs.Tables.{hitAt, othersHit}
+use Rattle.bank.specs.Tables.{placeable, NewTable, hitAt, othersHit}
 
 -- as many cores as before
 hit-length : (w a : ℕ) (cs : List ModelCore) → length (othersHit w a cs) ≡ length cs
@@ -77,3 +81,48 @@ all-told w a cores olds i past sofar =
     let long = length-map olds coreOf in
     sofar ∙ ap (λ l. l ++ drop i (map coreOf olds)) (take-all i (othersHit w a (map coreOf olds)) (omega (arith, hit-length w a (map coreOf olds))))
     ∙ ap (λ l. othersHit w a (map coreOf olds) ++ l) (drop-all i (map coreOf olds) (omega arith)) ∙ append-nil (othersHit w a (map coreOf olds))
+
+-- one place more below a bound
+below-push : (ps : List ℕ) (p n : ℕ) → allBelow ps n ≡ true → p < n → allBelow (ps ++ (p ∷ [])) n ≡ true
+below-push [] p n h lt = and-from (ltb p n) true (lt-ltb p n lt) refl
+below-push (q ∷ ps) p n h lt = let b = and-parts (ltb q n) (allBelow ps n) h in and-from (ltb q n) (allBelow (ps ++ (p ∷ [])) n) (b .0) (below-push ps p n (b .1) lt)
+
+-- a place that is not below it
+below-not : (ps : List ℕ) (i n : ℕ) → i < length ps → n ≤ getD ps i 0 → allBelow ps n ≡ false
+below-not [] i n h le = absurd (omega arith)
+below-not (q ∷ ps) zero n h le = and-left (ltb q n) (allBelow ps n) (le-ltb q n le)
+below-not (q ∷ ps) (suc i) n h le = and-right (ltb q n) (allBelow ps n) (below-not ps i n (le-of-suc-le-suc h) le)
+
+-- a table being filled: so many new cores stand in front
+pub record Filled (cores : List Core) (places : List ℕ) (i : ℕ) : Type 0 where
+  pub sized : length cores ≡ 8
+  pub made : map coreOf (take i cores) ≡ map newCore (take i places)
+  pub below : allBelow (take i places) 512 ≡ true
+
+-- none yet
+pub filled-none : (cores : List Core) (places : List ℕ) → length cores ≡ 8 → Filled cores places 0
+filled-none cores places h = record { sized = h; made = refl; below = refl }
+
+-- one more
+pub filled-more : (cores : List Core) (places : List ℕ) (i : ℕ) (c : Core) → length places ≤ 8 → i < length places → getD places i 0 ≤ 511 → coreOf c ≡ newCore (getD places i 0) → Filled cores places i → Filled (set cores i c) places (i + 1)
+filled-more cores places i c few h low is f =
+    let more = take-more places i 0 h in
+    record {
+      sized = length-set cores i c ∙ f .sized;
+      made = ap (map coreOf) (take-more-set cores i c (omega (arith, f .sized))) ∙ map-push coreOf (take i cores) c ∙ ap (λ l. l ++ (coreOf c ∷ [])) (f .made) ∙ ap (λ x. map newCore (take i places) ++ (x ∷ [])) is ∙ sym (map-push newCore (take i places) (getD places i 0)) ∙ ap (map newCore) (sym more);
+      below = ap (λ l. allBelow l 512) more ∙ below-push (take i places) (getD places i 0) 512 (f .below) (omega arith);
+    }
+
+-- all of them
+pub filled-all : (cores : List Core) (places : List ℕ) (i : ℕ) → length places ≤ 8 → length places ≤ i → i ≤ length places → Filled cores places i → (placeable places ≡ true) × NewTable (record { cores = cores; count = length places }) places
+filled-all cores places i few past upto f =
+    let at : i ≡ length places = omega arith in
+    let all = take-all i places past in
+    (
+      and-from (leb (length places) 8) (allBelow places 512) (le-leb (length places) 8 few) (ap (λ l. allBelow l 512) (sym all) ∙ f .below),
+      record { count = refl; cores = ap (λ n. map coreOf (take n cores)) (sym at) ∙ f .made ∙ ap (map newCore) all; sized = f .sized },
+    )
+
+-- a place above 511
+pub not-placeable-high : (places : List ℕ) (i : ℕ) → i < length places → 511 < getD places i 0 → placeable places ≡ false
+not-placeable-high places i h high = and-right (leb (length places) 8) (allBelow places 512) (below-not places i 512 h (omega arith))

@@ -67,7 +67,7 @@ found (l ∷ ls) a i h =
     ]
 
 -- where no line is, none is tagged
-untagged : (ls : List Line) (a : ℕ) → holds ls a ≡ false → tagged ls a ≡ false
+pub untagged : (ls : List Line) (a : ℕ) → holds ls a ≡ false → tagged ls a ≡ false
 untagged [] a h = refl
 untagged (l ∷ ls) a h = let p = or-parts (eqb (l .address) a) (holds ls a) h in rw (p .0) (untagged ls a (p .1))
 

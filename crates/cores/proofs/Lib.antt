@@ -1,2 +1,4 @@
 pub mod Searches
+pub mod Steps
 pub mod Buffers
+pub mod Tags

@@ -22,7 +22,7 @@ askOf p Halts = AskHalts
 askOf p Retries = AskRetries
 askOf p Earlies = AskEarlies
 
--- the next place is one of 512
+-- the next place is one of 512; HALT has none
 abbrev pub Onward : Place → Ask → Type 0
 Onward p (Moves q) = q .pc ≤ 511
 Onward p (Loads a d) = p .pc < 511
@@ -30,6 +30,6 @@ Onward p (Stores a w) = p .pc < 511
 Onward p (Sends e) = p .pc < 511
 Onward p Begins = p .pc < 511
 Onward p Ends = p .pc < 511
-Onward p Halts = p .pc ≤ 511
+Onward p Halts = Unit {0}
 Onward p Retries = p .pc < 511
 Onward p Earlies = p .pc < 511

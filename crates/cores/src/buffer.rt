@@ -8,6 +8,7 @@ use model::place::Line;
 
 mod access;
 mod change;
+mod tags;
 
 // `used` lines stand in front, oldest first, each at an address of its own.
 #[derive(Clone, Copy)]

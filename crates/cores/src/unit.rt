@@ -6,6 +6,13 @@ use model::place::Place;
 use model::state::State;
 
 mod access;
+mod bypass;
+mod change;
+mod commit;
+mod early;
+mod outcomes;
+mod step;
+mod transaction;
 
 // State, place, saved place, open BEGINs, instructions performed in the block, and the write buffer.
 #[derive(Clone, Copy)]

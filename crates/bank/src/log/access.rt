@@ -6,16 +6,30 @@ ghost use lib.ListN.{length};
 ghost use Rattle.model.specs.Engine.{entryIn};
 ghost use Rattle.bank.specs.Logs.{turnsOf, recorded, asTurn};
 use super::Log;
+use formats::below::CoreNumber;
+use formats::below::UnitCount;
+use formats::entry::Mark;
 use formats::entry::RecordEntry;
 use model::refusal::RecordRefusal;
 
 impl Log {
-    // An empty record, with a blank entry in each place.
-    pub fn new(blank: RecordEntry) -> Log
+    // An empty record.
+    pub fn new() -> Log
         ensures { λ r. ⌜ turnsOf r ≡ [] ⌝ }
     {
+        let Some(core) = CoreNumber::new(0) else {
+            unreachable();
+        };
+        let Some(count) = UnitCount::new(0) else {
+            unreachable();
+        };
+        let unused = RecordEntry {
+            core,
+            mark: Mark::Completed,
+            count,
+        };
         Log {
-            entries: [blank; 1024],
+            entries: [unused; 1024],
             len: 0,
         }
     }
