@@ -10,7 +10,7 @@ use lib.Dec.{ltb, leb}
 use lib.ListN.{length, getD, take, drop, set, length-set}
 use borrow.Author.Tests.{lt-ltb, le-ltb, le-leb}
 use lib.Seq.{length-take-le, map-set, set-at, getD-at, take-all}
-use Rattle.std.proofs.shelf.Lists.{length-map, take-more, take-more-set, drop-more, drop-all, getD-map, map-push}
+use Rattle.std.proofs.shelf.Lists.{length-map, take-more, take-more-set, drop-more, drop-all, getD-map, map-push, take-map}
 use Rattle.std.proofs.shelf.Tests.{and-from, and-parts, and-left, and-right}
 use Rattle.model.specs.Cores.{Core as ModelCore}
 use Rattle.model.specs.Engine.{blank, allBelow, newCore}
@@ -117,8 +117,7 @@ filled-more cores places i c few h low is f =
 pub filled-all : (cores : List Core) (places : List ℕ) (i : ℕ) → length places ≤ 8 → length places ≤ i → i ≤ length places → Filled cores places i → (placeable places ≡ true) × NewTable (record { cores = cores; count = length places }) places
 filled-all cores places i few past upto f =
     let at : i ≡ length places = omega arith in
-    let all = take-all i places past in
-    (
+    let all = take-all i places past in (
       and-from (leb (length places) 8) (allBelow places 512) (le-leb (length places) 8 few) (ap (λ l. allBelow l 512) (sym all) ∙ f .below),
       record { count = refl; cores = ap (λ n. map coreOf (take n cores)) (sym at) ∙ f .made ∙ ap (map newCore) all; sized = f .sized },
     )
@@ -126,3 +125,25 @@ filled-all cores places i few past upto f =
 -- a place above 511
 pub not-placeable-high : (places : List ℕ) (i : ℕ) → i < length places → 511 < getD places i 0 → placeable places ≡ false
 not-placeable-high places i h high = and-right (leb (length places) 8) (allBelow places 512) (below-not places i 512 h (omega arith))
+
+hit-take : (w a n : ℕ) (cs : List ModelCore) → take n (othersHit w a cs) ≡ othersHit w a (take n cs)
+hit-take w a zero cs = refl
+hit-take w a (suc n) [] = refl
+hit-take zero a (suc n) (c ∷ cs) = ap (λ l. c ∷ l) (take-map (hitAt a) n cs)
+hit-take (suc w) a (suc n) (c ∷ cs) = ap (λ l. hitAt a c ∷ l) (hit-take w a n cs)
+
+-- the cores in use are told where all are
+pub told-in-use : (w a n : ℕ) (olds news : List Core) → map coreOf news ≡ othersHit w a (map coreOf olds) → map coreOf (take n news) ≡ othersHit w a (map coreOf (take n olds))
+told-in-use w a n olds news all =
+    sym (take-map coreOf n news) ∙ ap (take n) all ∙ hit-take w a n (map coreOf olds) ∙ ap (othersHit w a) (take-map coreOf n olds)
+
+-- as many cores as before
+pub told-length : (w a : ℕ) (olds news : List Core) → map coreOf news ≡ othersHit w a (map coreOf olds) → length news ≡ length olds
+told-length w a olds news all =
+    sym (length-map news coreOf) ∙ ap length all ∙ hit-length w a (map coreOf olds) ∙ length-map olds coreOf
+
+-- telling the others after the writer has moved, or before it
+pub told-after : (w a : ℕ) (cs : List ModelCore) (c : ModelCore) → othersHit w a (set cs w c) ≡ set (map (hitAt a) cs) w c
+told-after w a [] c = refl
+told-after zero a (d ∷ cs) c = refl
+told-after (suc w) a (d ∷ cs) c = ap (λ l. hitAt a d ∷ l) (told-after w a cs c)

@@ -46,10 +46,16 @@ impl Table {
             cores[i] = core;
         }
         let count = places.len();
-        Some(Table {
-            cores,
-            count,
-        })
+        Some(Table { cores, count })
+    }
+
+    // A core has written the word at an address: the others are told.
+    pub fn tell_others(&mut self, writer: usize, address: usize)
+        ensures cores { λ _. ⌜ coresOf (now (self .exit)) ≡ othersHit writer address (coresOf (now (self .entry))) ⌝ }
+        ensures count { λ _. ⌜ now (self .exit) .count ≡ now (self .entry) .count ⌝ }
+        ensures sized { λ _. ⌜ length (now (self .exit) .cores) ≡ length (now (self .entry) .cores) ⌝ }
+    {
+        broadcast(&mut self.cores, writer, address);
     }
 }
 

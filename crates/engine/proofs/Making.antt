@@ -42,18 +42,18 @@ below-wider (p ∷ ps) m n h all =
 pub checked-placeable : (s : Settings) (words : ℕ) → length (s .program) ≤ 512 → check s words ≡ Ok tt → placeable (s .places) ≡ true
 checked-placeable s words few ok =
     elim (cases-bool (upTo (length (s .places)) 8)) [
-      inl count ↦
-        elim (cases-bool (upTo (s .lines) 32)) [
-          inl lines ↦
-            elim (cases-bool (upTo words 4096)) [
-              inl memory ↦
-                elim (cases-bool (allBelow (s .places) (length (s .program)))) [
-                  inl below ↦ and-from (leb (length (s .places)) 8) (allBelow (s .places) 512) (and-parts (ltb 0 (length (s .places))) (leb (length (s .places)) 8) count .1) (below-wider (s .places) (length (s .program)) 512 few below)
-                | inr below ↦ let z : _≡_ {A = ℕ} 0 1 = cc (rw (count, lines, memory, below) at ok) in absurd (omega arith)
+      | inl count ↦
+          elim (cases-bool (upTo (s .lines) 32)) [
+            | inl lines ↦
+                elim (cases-bool (upTo words 4096)) [
+                  | inl memory ↦
+                      elim (cases-bool (allBelow (s .places) (length (s .program)))) [
+                        | inl below ↦ and-from (leb (length (s .places)) 8) (allBelow (s .places) 512) (and-parts (ltb 0 (length (s .places))) (leb (length (s .places)) 8) count .1) (below-wider (s .places) (length (s .program)) 512 few below)
+                        | inr below ↦ let z : _≡_ {A = ℕ} 0 1 = cc (rw (count, lines, memory, below) at ok) in absurd (omega arith)
+                      ]
+                  | inr memory ↦ let z : _≡_ {A = ℕ} 0 1 = cc (rw (count, lines, memory) at ok) in absurd (omega arith)
                 ]
-            | inr memory ↦ let z : _≡_ {A = ℕ} 0 1 = cc (rw (count, lines, memory) at ok) in absurd (omega arith)
-            ]
-        | inr lines ↦ let z : _≡_ {A = ℕ} 0 1 = cc (rw (count, lines) at ok) in absurd (omega arith)
-        ]
-    | inr count ↦ let z : _≡_ {A = ℕ} 0 1 = cc (rw count at ok) in absurd (omega arith)
+            | inr lines ↦ let z : _≡_ {A = ℕ} 0 1 = cc (rw (count, lines) at ok) in absurd (omega arith)
+          ]
+      | inr count ↦ let z : _≡_ {A = ℕ} 0 1 = cc (rw count at ok) in absurd (omega arith)
     ]

@@ -1,1 +1,2 @@
 pub mod Engines
+pub mod Steps

@@ -1,6 +1,6 @@
 // An engine over any memory and any outlet.
 ghost use mathlib.Core.Path.{_≡_};
-ghost use Prim.Native.Nat.{_≤_};
+ghost use Prim.Native.Nat.{_<_, _≤_};
 ghost use lib.ListN.{length};
 use bank::log::Log;
 use bank::table::Table;
@@ -11,6 +11,7 @@ use program::program::Program;
 
 mod calls;
 mod making;
+mod moving;
 
 // The host changes an engine only by its calls.
 pub struct Engine<M: Memory, O: Outlet> {
@@ -24,4 +25,6 @@ pub struct Engine<M: Memory, O: Outlet> {
     next: usize,
     ghost few: { table .count ≤ 8 },
     ghost sized: { length (table .cores) ≡ 8 },
+    ghost lines: { (0 < table .count → capacity ≤ 32) },
+    ghost soon: { next ≤ 8 },
 }

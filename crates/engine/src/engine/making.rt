@@ -1,6 +1,6 @@
 // Checking settings, and making an engine from them.
 ghost use mathlib.Core.Path.{_≡_};
-ghost use Prim.Native.Nat.{_≤_};
+ghost use Prim.Native.Nat.{_<_, _≤_};
 ghost use lib.ListN.{length};
 ghost use Rattle.bank.specs.Tables.{coresOf};
 ghost use Rattle.model.specs.Engine.{allBelow, check, newCores, make};
@@ -27,7 +27,12 @@ fn all_below(places: &[usize], bound: usize) -> bool
 }
 
 // The first refusal for some settings and a memory of so many words.
-pub fn check(program: &Program, places: &[usize], lines: usize, words: usize) -> Result<(), CheckRefusal>
+pub fn check(
+    program: &Program,
+    places: &[usize],
+    lines: usize,
+    words: usize,
+) -> Result<(), CheckRefusal>
     ensures { λ r. ⌜ r ≡ check (settingsOf (now (program .entry)) (now (places .entry)) lines) words ⌝ }
 {
     if places.len() < 1 || places.len() > 8 {
@@ -50,6 +55,7 @@ fn new_cores(program: &Program, places: &[usize], lines: usize, words: usize) ->
     ensures cores { λ r. ⌜ coresOf r ≡ newCores (check (settingsOf (now (program .entry)) (now (places .entry)) lines) words) (now (places .entry)) ⌝ }
     ensures few { λ r. ⌜ r .count ≤ 8 ⌝ }
     ensures sized { λ r. ⌜ length (r .cores) ≡ 8 ⌝ }
+    ensures lines { λ r. ⌜ (0 < r .count → lines ≤ 32) ⌝ }
 {
     match check(program, places, lines, words) {
         Ok(()) => match Table::new(places) {
@@ -62,7 +68,13 @@ fn new_cores(program: &Program, places: &[usize], lines: usize, words: usize) ->
 
 impl<M: Memory, O: Outlet> Engine<M, O> {
     // A new engine over a memory and an outlet. From settings that `check` refuses it has no core.
-    pub fn make(program: Program, places: &[usize], lines: usize, memory: M, outlet: O) -> Engine<M, O>
+    pub fn make(
+        program: Program,
+        places: &[usize],
+        lines: usize,
+        memory: M,
+        outlet: O,
+    ) -> Engine<M, O>
         ensures { λ r. ⌜ engineOf M·Memory O·Outlet r ≡ make (settingsOf program (now (places .entry)) lines) (M·Memory .words memory) (outletOf O·Outlet outlet) ⌝ }
     {
         let table = new_cores(&program, places, lines, memory.len());
