@@ -1,3 +1,4 @@
+pub mod Scenes
 pub mod Searches
 pub mod Steps
 pub mod Buffers

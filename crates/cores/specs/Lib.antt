@@ -3,6 +3,7 @@ pub mod Bounds
 pub mod Buffers
 pub mod Decisions
 pub mod Distinct
+pub mod Scenes
 pub mod Steps
 pub mod Tags
 pub mod Units

@@ -1,6 +1,6 @@
 // One core: its write buffer, what its instruction asks for, and its state machine.
-pub mod ask;
-pub mod buffer;
-pub mod decide;
+mod ask;
+mod buffer;
+mod decide;
 pub mod scene;
 pub mod unit;

@@ -33,11 +33,11 @@ impl Buffer {
             return self;
         }
         let mut lines = self.lines;
-        let line = lines[index];
+        let old = lines[index];
         lines[index] = Line {
-            address: line.address,
+            address: old.address,
             value,
-            tag: line.tag,
+            tag: old.tag,
             dirty: true,
         };
         Buffer {

@@ -105,16 +105,17 @@ impl Core {
         requires { ⌜ count ≤ 4096 ⌝ }
         ensures { λ r. ⌜ steppedOf r ≡ finishes (sceneOf scene) (coreOf self) effect mark count answer ⌝ }
     {
+        let entry = RecordEntry {
+            core: scene.me,
+            mark,
+            count: unit_count(count),
+        };
         Stepped {
             core: self,
             outcome: Outcome {
                 effect,
                 token: free_from(scene.token, scene.me),
-                entry: Some(RecordEntry {
-                    core: scene.me,
-                    mark,
-                    count: unit_count(count),
-                }),
+                entry: Some(entry),
                 answer,
             },
         }
