@@ -8,4 +8,8 @@ pub mod Decoding
 pub mod Transaction
 pub mod Holder
 pub mod Calls
+pub mod Serial
+pub mod RollBack
+pub mod HeldRead
+pub mod Observed
 pub mod Laws

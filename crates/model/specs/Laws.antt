@@ -1,15 +1,16 @@
 -- The three laws, over every settings, memory, outlet and list of calls, at every point of the run.
 --   SerialAt, RollBackAt, HeldReadAt    what each law says of a run
---   Serial, RollBack, HeldRead          that it holds of every run
---   Lawful                              all three, at every point of one list of calls
+--   ObservedAt                          that what is observed is all that happens to memory and outlet
+--   Serial, RollBack, HeldRead          that a law holds of every run
+--   Lawful, Laws                        all three, at every point of one list of calls, and of every list
 -- Assumes nothing.
-use Prim.Native.Nat.{ℕ}
+use Prim.Native.Nat.{ℕ, _<_}
 use mathlib.Core.Path.{_≡_}
 use mathlib.Core.Logic.{_↔_}
 use mathlib.Core.Bool.{Bool, true}
 use mathlib.Core.List.{List, _++_, map}
 use mathlib.Core.Option.{some}
-use lib.ListN.{getD, take}
+use lib.ListN.{length, getD, take}
 use Rattle.std.specs.declared.result.Result.the-variants.{Ok}
 use Rattle.answers.specs.declared.answer.Answer.{Answer}
 use Rattle.answers.specs.declared.answer.Answer.the-variants.{RolledBack}
@@ -23,7 +24,7 @@ use Rattle.model.specs.OneAtATime.{Machine, runs}
 use Rattle.model.specs.Lines.{Effect}
 use Rattle.model.specs.Cores.{settle}
 use Rattle.model.specs.Engine.{Settings, Outlet}
-use Rattle.model.specs.Runs.{Run, Moved, event, reply, history}
+use Rattle.model.specs.Runs.{Run, Moved, event, played, memorySeen, sentIn, takenIn, reply, history}
 
 -- no core has the token; the host may
 abbrev pub NoCoreHas : Token → Type 0
@@ -43,6 +44,17 @@ pub record Explained (r : Run) : Type 0 where
   -- the entries taken since the clearing, then those waiting, are those waiting at the clearing, then those sent
   pub sent : r .journal .taken ++ r .engine .outlet .waiting ≡ r .journal .waiting ++ machine .sent
 
+-- observed: an event tells every word that a call writes and every entry that it sends or takes
+pub record Told (r : Run) (c : Call) : Type 0 where
+  pub memory : played (r .engine) c .memory ≡ memorySeen (event (r .engine) c) (r .engine .memory)
+  pub outlet :
+      takenIn (event (r .engine) c) ++ played (r .engine) c .outlet .waiting
+      ≡ r .engine .outlet .waiting ++ sentIn (event (r .engine) c)
+
+-- the same of every call
+abbrev pub ObservedAt : Run → Type 0
+ObservedAt r = (c : Call) → Told r c
+
 -- serial: whenever no core has the token, the record explains the engine
 abbrev pub SerialAt : Run → Type 0
 SerialAt r = NoCoreHas (r .engine .token) → Explained r
@@ -58,6 +70,7 @@ RollBackAt r =
 pub record HeldWord (r : Run) (a w : ℕ) : Type 0 where
   pub machine : Machine
   pub possible : runs (r .engine .program) (r .journal .held) (r .journal .start) ≡ some machine
+  pub inside : a < length (machine .memory)
   pub word : w ≡ getD (machine .memory) a 0
 
 -- held read: a read that is not refused answers the word that the machine has there after the entries present when the hold began
@@ -76,11 +89,16 @@ RollBack = (s : Settings) (m : List ℕ) (o : Outlet) (cs : List Call) → RollB
 abbrev pub HeldRead : Type 0
 HeldRead = (s : Settings) (m : List ℕ) (o : Outlet) (cs : List Call) → HeldReadAt (history s m o cs)
 
--- all three laws of one run
+-- events tell all that happens to memory and outlet
+abbrev pub Observed : Type 0
+Observed = (s : Settings) (m : List ℕ) (o : Outlet) (cs : List Call) → ObservedAt (history s m o cs)
+
+-- all three laws of one run, in what was truly observed
 pub record LawsAt (r : Run) : Type 0 where
   pub serial : SerialAt r
   pub rollBack : RollBackAt r
   pub heldRead : HeldReadAt r
+  pub observed : ObservedAt r
 
 -- all three laws at every point of a list of calls
 abbrev pub Lawful : Settings → List ℕ → Outlet → List Call → Type 0

@@ -26,7 +26,7 @@ use Rattle.model.specs.Instructions.{Ask, Moves, Loads, Stores, Sends, Begins,
 use Rattle.model.specs.OneAtATime.{Machine, Turn as Entry}
 use Rattle.model.specs.Lines.{Effect, Nothing, Wrote, Sent}
 use Rattle.model.specs.Cores.{settle}
-use Rattle.model.specs.Engine.{Engine, Outlet, Settings, make, coreAt, outcomeOf, step, turn, clear, hold, read, giveBack, takeOldest}
+use Rattle.model.specs.Engine.{Engine, Outlet, Settings, make, coreAt, memoryAfter, outcomeOf, step, turn, clear, hold, read, giveBack, takeOldest}
 
 -- what a call answers
 abbrev pub reply : Engine → Call → Reply
@@ -88,6 +88,36 @@ event e Hold = holdEvent (hold e .answer)
 event e (Read a) = Silent
 event e GiveBack = Silent
 event e Take = takeEvent (takeOldest e .answer)
+
+-- the memory after an event: a word changes only where a core is seen to write it
+abbrev pub memorySeen : Event → List ℕ → List ℕ
+memorySeen (Moved i ask answer x) m = memoryAfter x m
+memorySeen Clears m = m
+memorySeen Holds m = m
+memorySeen (Takes x) m = m
+memorySeen Silent m = m
+
+-- the entry that a step sends
+abbrev pub sentBy : Effect → List SentEntry
+sentBy Nothing = []
+sentBy (Wrote a w) = []
+sentBy (Sent x) = x ∷ []
+
+-- the entries sent in an event
+abbrev pub sentIn : Event → List SentEntry
+sentIn (Moved i ask answer x) = sentBy x
+sentIn Clears = []
+sentIn Holds = []
+sentIn (Takes x) = []
+sentIn Silent = []
+
+-- the entries taken in an event
+abbrev pub takenIn : Event → List SentEntry
+takenIn (Moved i ask answer x) = []
+takenIn Clears = []
+takenIn Holds = []
+takenIn (Takes x) = x ∷ []
+takenIn Silent = []
 
 -- what the observer knows of a core's block
 pub record Book : Type 0 where
