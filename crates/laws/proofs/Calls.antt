@@ -26,8 +26,10 @@ use Rattle.model.specs.declared.call.Call.the-variants.{Step, Turn, Clear, Hold
 use Rattle.model.specs.Instructions.{Ask, asks, outerAt, innerAt}
 use Rattle.model.specs.OneAtATime.{Machine}
 use Rattle.model.specs.Cores.{Core, byState}
-use Rattle.model.specs.Engine.{Engine, Outlet, Settings, make, newCores, newCore, check, blank, coreAt, viewOf, outcomeOf, After, stays, stepped, step, wanted, advanced, clearIf, emptied, holdIf, giveBackIf, withToken, takeFrom, withOutlet}
-use Rattle.model.specs.Runs.{Journal, Run, closed, newJournal, startOf, note, event, movedEvent, clearEvent, holdEvent, takeEvent, played, more, mores, fresh, history}
+use Rattle.model.specs.Engine.{Engine, Outlet, Settings, make, newCores, newCore, check, blank, coreAt, viewOf}
+use Rattle.model.specs.Calls.{outcomeOf, After, stays, stepped, step, wanted, advanced, clearIf, emptied, holdIf, giveBackIf, withToken, takeFrom, withOutlet}
+use Rattle.model.specs.Runs.{event, movedEvent, clearEvent, holdEvent, takeEvent, played}
+use Rattle.model.specs.Journal.{Journal, Run, closed, newJournal, startOf, note, more, mores, fresh, history}
 use Rattle.laws.proofs.Invariant.{Good, Booked, Shared, SentIs, HeldIs, Inv}
 use Rattle.laws.proofs.Keeps.{InvAfter, other-still, free-core}
 use Rattle.laws.proofs.Plain.{stopped, aborted, bypass}

@@ -13,8 +13,8 @@ use Rattle.model.specs.declared.state.Token.the-variants.{Free, Core as CoreHas
 use Rattle.model.specs.declared.refusal.ReadRefusal.{ReadRefusal}
 use Rattle.model.specs.declared.refusal.ReadRefusal.the-variants.{NotHeld, AddressOutside}
 use Rattle.model.specs.declared.call.Reply.the-variants.{Word}
-use Rattle.model.specs.Engine.{readIf}
-use Rattle.model.specs.Runs.{Run}
+use Rattle.model.specs.Calls.{readIf}
+use Rattle.model.specs.Journal.{Run}
 use Rattle.model.specs.Laws.{HeldWord, HeldReadAt}
 use Rattle.laws.proofs.Invariant.{HeldIs, Inv}
 

@@ -27,7 +27,7 @@ use Rattle.model.specs.OneAtATime.{Inside, further, faultsFurther, run, unit}
 use Rattle.model.specs.Lines.{Line, Effect, Nothing, Wrote, Sent, anyDirty, wrote, left}
 use Rattle.model.specs.Cores.{Core, resting, turnedTo, performed, settle, settledPlace, settledStopped, freed, becomes, acts, finishes, faulted, ends, inCommit, inEarlyFlush, inEarlyCommit}
 use Rattle.model.specs.Engine.{Engine, Outlet, coreAt, viewOf, change, memoryAfter, outletAfter}
-use Rattle.model.specs.Runs.{Journal, Book, Touch, Reads, Writes, Neither, touch, touches, ownMove, opened, has}
+use Rattle.model.specs.Journal.{Journal, Book, Touch, Reads, Writes, Neither, touch, touches, ownMove, opened, has}
 use Rattle.laws.proofs.Lines.{overlay, length-overlay, overlay-clean, overlay-left}
 use Rattle.laws.proofs.Invariant.{scene, Good, Booked, Holder, Holding, Shared, SentIs, Inv}
 use Rattle.laws.proofs.Keeps.{InvAfter, good-in, booked-in, own-quiet, length-after}

@@ -18,7 +18,7 @@ use Rattle.model.specs.OneAtATime.{Scene, Inside, run, Machine, runs}
 use Rattle.model.specs.Lines.{holds, tagged}
 use Rattle.model.specs.Cores.{Core, settle}
 use Rattle.model.specs.Engine.{Engine, coreAt}
-use Rattle.model.specs.Runs.{Book, Journal, has}
+use Rattle.model.specs.Journal.{Book, Journal, has}
 use Rattle.laws.proofs.Lines.{overlay, Fit, Agree}
 
 -- a core alone at a place, with a memory and what was sent

@@ -22,7 +22,8 @@ use Rattle.model.specs.OneAtATime.{Machine, Turn, runs, turn, andThen, Settled,
 use Rattle.model.specs.Lines.{Line, Effect, Nothing, Wrote, Sent, tagged}
 use Rattle.model.specs.Cores.{Core, turnedTo, settle, Outcome}
 use Rattle.model.specs.Engine.{Engine, coreAt, blank, change, struck, struckAt, memoryAfter, outletAfter}
-use Rattle.model.specs.Runs.{Book, Journal, Moved, note, touch, ownMove, otherMove, has}
+use Rattle.model.specs.Runs.{Moved}
+use Rattle.model.specs.Journal.{Book, Journal, note, touch, ownMove, otherMove, has}
 use Rattle.laws.proofs.Lines.{overlay, Fit, Agree, fit-set}
 use Rattle.laws.proofs.Invariant.{scene, Follows, Good, Booked, Tracks, Holding, Holder, Shared, SentIs, HeldIs, Inv}
 

@@ -1,7 +1,7 @@
 -- The laws, of every run.
 -- Assumes nothing.
 use lib.ListN.{take}
-use Rattle.model.specs.Runs.{history}
+use Rattle.model.specs.Journal.{history}
 use Rattle.model.specs.Laws.{Serial, RollBack, HeldRead, Observed, Laws}
 use Rattle.laws.proofs.Calls.{always}
 use Rattle.laws.proofs.Serial.{serial-at}

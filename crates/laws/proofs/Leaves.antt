@@ -20,7 +20,7 @@ use Rattle.model.specs.OneAtATime.{Machine, noCore, run, unit, runs}
 use Rattle.model.specs.Lines.{Effect, Nothing}
 use Rattle.model.specs.Cores.{Core, settle, settledStopped, settledPlace, freed, becomes, acts, takesToken, finishes}
 use Rattle.model.specs.Engine.{Engine, coreAt, viewOf, change, memoryAfter}
-use Rattle.model.specs.Runs.{Journal, touch, ownMove}
+use Rattle.model.specs.Journal.{Journal, touch, ownMove}
 use Rattle.laws.proofs.Invariant.{scene, Good, Booked, Holder, Holding, Shared, SentIs, Inv}
 use Rattle.laws.proofs.Keeps.{Quiet, Step, InvAfter, Own, kept-own, kept-aside, free-quiet, own-quiet}
 use Rattle.laws.proofs.Turns.{core-settled, ran-more}

@@ -19,7 +19,8 @@ use Rattle.model.specs.declared.refusal.StepRefusal.the-variants.{NoSuchCore, R
 use Rattle.model.specs.declared.call.Call.{Call}
 use Rattle.model.specs.declared.call.Call.the-variants.{Step, Turn, Clear, Hold, Read, GiveBack, Take}
 use Rattle.model.specs.Lines.{Effect, Nothing, Wrote, Sent}
-use Rattle.model.specs.Engine.{Engine, Outlet, outcomeOf, After, stays, stepped, step, wanted, clearIf, holdIf, giveBackIf, takeFrom, advanced, outletAfter}
+use Rattle.model.specs.Engine.{Engine, Outlet, outletAfter}
+use Rattle.model.specs.Calls.{outcomeOf, After, stays, stepped, step, wanted, clearIf, holdIf, giveBackIf, takeFrom, advanced}
 use Rattle.model.specs.Runs.{Event, Silent, event, movedEvent, clearEvent, holdEvent, takeEvent, played, memorySeen, sentBy, sentIn, takenIn}
 
 outlet-told : (x : Effect) (o : Outlet) → outletAfter x o .waiting ≡ o .waiting ++ sentBy x

@@ -21,7 +21,7 @@ use Rattle.model.specs.OneAtATime.{Machine, run}
 use Rattle.model.specs.Lines.{Effect, Nothing, Wrote, Sent}
 use Rattle.model.specs.Cores.{Core, Outcome, resting, rolledBack, settle, ifFree, freed, becomes, plain, plainSend, faulted, inBypass, byState}
 use Rattle.model.specs.Engine.{Engine, coreAt, viewOf, change, memoryAfter}
-use Rattle.model.specs.Runs.{Journal, touch, ownMove}
+use Rattle.model.specs.Journal.{Journal, touch, ownMove}
 use Rattle.laws.proofs.Invariant.{scene, Follows, Good, Booked, Tracks, Holder, Shared, SentIs, Inv}
 use Rattle.laws.proofs.Keeps.{InvAfter, free-quiet}
 use Rattle.laws.proofs.Leaves.{NoHolder, UnitIs, only-core, finish-aside, finish-free}

@@ -28,8 +28,10 @@ use Rattle.model.specs.Instructions.{Ask, asks, Outer, OuterFaults, OuterMoves,
 use Rattle.model.specs.Instructions.{Inner, InnerFaults, InnerMoves, InnerLoads, InnerStores, InnerSends, Closes, Restarts, TakesToken}
 use Rattle.model.specs.Lines.{Effect, holds, anyDirty, left}
 use Rattle.model.specs.Cores.{Core, View, Outcome, ifFree, early, byState, inBypass, inTransaction, inCommit, inEarlyFlush, inEarlyCommit, innerOf}
-use Rattle.model.specs.Engine.{Engine, coreAt, viewOf, outcomeOf, After, stays, stepped, step, wanted, clear, hold, takeOldest}
-use Rattle.model.specs.Runs.{Run, Book, Event, Moved, Silent, Clears, Holds, Takes, event, movedEvent, clearEvent, holdEvent, takeEvent}
+use Rattle.model.specs.Engine.{Engine, coreAt, viewOf}
+use Rattle.model.specs.Calls.{outcomeOf, After, stays, stepped, step, wanted, clear, hold, takeOldest}
+use Rattle.model.specs.Runs.{Event, Moved, Silent, Clears, Holds, Takes, event, movedEvent, clearEvent, holdEvent, takeEvent}
+use Rattle.model.specs.Journal.{Run, Book}
 use Rattle.model.specs.Laws.{RollBackAt}
 use Rattle.laws.proofs.Invariant.{Booked, Inv}
 

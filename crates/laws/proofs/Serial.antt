@@ -2,7 +2,7 @@
 -- Assumes nothing.
 use Rattle.model.specs.declared.state.Token.{Token}
 use Rattle.model.specs.declared.state.Token.the-variants.{Free, Core as CoreHas, Host}
-use Rattle.model.specs.Runs.{Run}
+use Rattle.model.specs.Journal.{Run}
 use Rattle.model.specs.Laws.{NoCoreHas, Explained, SerialAt}
 use Rattle.laws.proofs.Invariant.{Shared, Inv}
 

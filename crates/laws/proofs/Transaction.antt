@@ -22,7 +22,7 @@ use Rattle.model.specs.OneAtATime.{Machine, Inside, further, run, unit}
 use Rattle.model.specs.Lines.{Line, Nothing, holds, valueAt, tagged, loadedLine, storedLine, storeAt, anyDirty}
 use Rattle.model.specs.Cores.{Core, resting, turnedTo, performed, rolledBack, settle, settledPlace, freed, becomes, takesToken, faulted, ends, early, withLine, closes, inTransaction}
 use Rattle.model.specs.Engine.{Engine, coreAt, viewOf}
-use Rattle.model.specs.Runs.{Journal, Book, has, Touch, Reads, Writes, Neither, touch, touches, opened}
+use Rattle.model.specs.Journal.{Journal, Book, has, Touch, Reads, Writes, Neither, touch, touches, opened}
 use Rattle.laws.proofs.Lines.{overlay, length-overlay, overlay-append, overlay-clean, getD-overlay, getD-overlay-other, overlay-storeAt}
 use Rattle.laws.proofs.Lines.{Agree, holds-append, tagged-append, holds-storeAt, tagged-storeAt, fit-append, fit-storeAt, fit-agree}
 use Rattle.laws.proofs.Invariant.{scene, Follows, Good, Booked, Tracks, Holder, Holding, Inv}

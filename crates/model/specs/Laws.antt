@@ -24,7 +24,8 @@ use Rattle.model.specs.OneAtATime.{Machine, runs}
 use Rattle.model.specs.Lines.{Effect}
 use Rattle.model.specs.Cores.{settle}
 use Rattle.model.specs.Engine.{Settings, Outlet}
-use Rattle.model.specs.Runs.{Run, Moved, event, played, memorySeen, sentIn, takenIn, reply, history}
+use Rattle.model.specs.Runs.{Moved, event, played, memorySeen, sentIn, takenIn, reply}
+use Rattle.model.specs.Journal.{Run, history}
 
 -- no core has the token; the host may
 abbrev pub NoCoreHas : Token → Type 0

@@ -23,7 +23,8 @@ use Rattle.model.specs.declared.call.Reply.the-variants.{Stepped, Cleared, Held
 use Rattle.model.specs.Instructions.{reg}
 use Rattle.model.specs.OneAtATime.{Turn as Entry}
 use Rattle.model.specs.Engine.{Outlet, Engine, make, coreAt}
-use Rattle.model.specs.Runs.{replies, mores, fresh}
+use Rattle.model.specs.Runs.{replies}
+use Rattle.model.specs.Journal.{mores, fresh}
 
 -- a number in an instruction
 abbrev pub imm : (n : ℕ) → n < 262144 → Immediate

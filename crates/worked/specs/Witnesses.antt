@@ -26,7 +26,8 @@ use Rattle.model.specs.declared.call.Reply.the-variants.{Stepped, Held, Word, G
 use Rattle.model.specs.Instructions.{Place}
 use Rattle.model.specs.OneAtATime.{Turn as Entry, Settled, Machine, runs}
 use Rattle.model.specs.Engine.{Engine}
-use Rattle.model.specs.Runs.{Run, replies, mores, fresh}
+use Rattle.model.specs.Runs.{replies}
+use Rattle.model.specs.Journal.{Run, mores, fresh}
 use Rattle.worked.specs.Examples.{imm, n0, n1, engineOf, entryOf, steps, answers, counterProgram, counterRun, pairProgram}
 
 -- the run of an engine through a list of calls
