@@ -2,6 +2,7 @@
 --   SerialAt, RollBackAt, HeldReadAt    what each law says of a run
 --   ObservedAt                          that what is observed is all that happens to memory and outlet
 --   Serial, RollBack, HeldRead          that a law holds of every run
+--   Played                              that a run's engine is the new engine after its calls
 --   Lawful, Laws                        all three, at every point of one list of calls, and of every list
 -- Assumes nothing.
 use Prim.Native.Nat.{ℕ, _<_}
@@ -23,8 +24,8 @@ use Rattle.model.specs.Instructions.{Ask}
 use Rattle.model.specs.OneAtATime.{Machine, runs}
 use Rattle.model.specs.Lines.{Effect}
 use Rattle.model.specs.Cores.{settle}
-use Rattle.model.specs.Engine.{Settings, Outlet}
-use Rattle.model.specs.Runs.{Moved, event, played, memorySeen, sentIn, takenIn, reply}
+use Rattle.model.specs.Engine.{Settings, Outlet, make}
+use Rattle.model.specs.Runs.{Moved, event, played, memorySeen, sentIn, takenIn, reply, plays}
 use Rattle.model.specs.Journal.{Run, history}
 
 -- no core has the token; the host may
@@ -93,6 +94,10 @@ HeldRead = (s : Settings) (m : List ℕ) (o : Outlet) (cs : List Call) → HeldR
 -- events tell all that happens to memory and outlet
 abbrev pub Observed : Type 0
 Observed = (s : Settings) (m : List ℕ) (o : Outlet) (cs : List Call) → ObservedAt (history s m o cs)
+
+-- the engine of a run is the new engine after its calls
+abbrev pub Played : Type 0
+Played = (s : Settings) (m : List ℕ) (o : Outlet) (cs : List Call) → history s m o cs .engine ≡ plays (make s m o) cs
 
 -- all three laws of one run, in what was truly observed
 pub record LawsAt (r : Run) : Type 0 where

@@ -2,7 +2,7 @@
 --   reply, played    what a call answers, and the engine after it
 --   Event, event     what an observer sees of a call
 --   memorySeen, sentIn, takenIn    what an event tells of memory and outlet
---   replies          what the calls of a list answer
+--   replies, plays   what the calls of a list answer, and the engine after them
 -- Assumes nothing.
 use Prim.Native.Nat.{ℕ}
 use mathlib.Core.List.{List, [], _∷_}
@@ -120,3 +120,8 @@ takenIn Silent = []
 abbrev pub replies : Engine → List Call → List Reply
 replies e [] = []
 replies e (c ∷ cs) = reply e c ∷ replies (played e c) cs
+
+-- the engine after a list of calls
+abbrev pub plays : Engine → List Call → Engine
+plays e [] = e
+plays e (c ∷ cs) = plays (played e c) cs

@@ -28,7 +28,7 @@ use Rattle.model.specs.declared.call.Reply.the-variants.{Stepped, Cleared, Held
 use Rattle.model.specs.OneAtATime.{Turn as Entry}
 use Rattle.model.specs.Engine.{Engine}
 use Rattle.model.specs.Calls.{Look, lookAt}
-use Rattle.model.specs.Runs.{replies, played}
+use Rattle.model.specs.Runs.{replies, plays}
 use Rattle.worked.specs.Examples.{imm, engineOf, entryOf}
 
 -- what people see of a core
@@ -53,14 +53,9 @@ finalOf m w r t es n ls = record { memory = m; waiting = w; room = r; token = t;
 abbrev pub final : Engine → Final
 final e = finalOf (e .memory) (e .outlet .waiting) (e .outlet .room) (e .token) (e .entries) (e .next) (map lookAt (e .cores))
 
--- the engine after a list of calls
-abbrev pub after : Engine → List Call → Engine
-after e [] = e
-after e (c ∷ cs) = after (played e c) cs
-
 -- what the calls answer, and how the engine stands then
 abbrev pub Agrees : Engine → List Call → List Reply → Final → Type 0
-Agrees e cs rs f = (replies e cs ≡ rs) × (final (after e cs) ≡ f)
+Agrees e cs rs f = (replies e cs ≡ rs) × (final (plays e cs) ≡ f)
 
 -- all of them
 pub record Compared : Type 0 where
