@@ -2,13 +2,12 @@
 -- Assumes nothing.
 use Prim.Native.Nat.{ℕ, suc, _<_}
 use mathlib.Core.Path.{_≡_, refl, sym, _∙_, ap, subst}
-use mathlib.Core.Logic.{_⊎_, inl, inr}
-use mathlib.Core.Bool.{Bool, true, false, cond}
+use mathlib.Core.Logic.{inl, inr}
+use mathlib.Core.Bool.{true, false}
 use mathlib.Core.List.{List, [], _∷_, _++_}
 use mathlib.Core.Option.{some}
-use lib.Dec.{ltb, eqb}
-use lib.ListN.{length, getD, set}
-use Rattle.std.proofs.shelf.Lists.{length-set}
+use lib.Dec.{ltb}
+use lib.ListN.{length, getD}
 use Rattle.std.proofs.shelf.Tests.{cases-bool, cond-both, cond-true, eq-eqb}
 use Rattle.answers.specs.declared.answer.Fault.{Fault}
 use Rattle.answers.specs.declared.answer.Fault.the-variants.{RetryAfterEarly}
@@ -17,19 +16,17 @@ use Rattle.answers.specs.declared.answer.Answer.the-variants.{Running, Done, Co
 use Rattle.formats.specs.declared.entry.Mark.{Mark}
 use Rattle.formats.specs.declared.entry.Mark.the-variants.{Completed, Kept}
 use Rattle.formats.specs.declared.entry.SentEntry.{SentEntry}
-use Rattle.model.specs.declared.state.State.{State}
 use Rattle.model.specs.declared.state.State.the-variants.{Bypass, Commit, EarlyFlush, EarlyCommit, Stopped}
-use Rattle.model.specs.declared.state.Token.{Token}
 use Rattle.model.specs.declared.state.Token.the-variants.{Free, Core as CoreHas}
 use Rattle.model.specs.Instructions.{Ask, Place, onward, past, innerAt}
 use Rattle.model.specs.Instructions.{Inner, InnerFaults, InnerMoves, InnerLoads, InnerStores, InnerSends, Closes, Restarts, TakesToken}
 use Rattle.model.specs.OneAtATime.{Inside, further, faultsFurther, run, unit}
 use Rattle.model.specs.Lines.{Line, Effect, Nothing, Wrote, Sent, anyDirty, wrote, left}
-use Rattle.model.specs.Cores.{Core, resting, turnedTo, performed, settle, settledPlace, settledStopped, freed, becomes, acts, finishes, faulted, ends, inCommit, inEarlyFlush, inEarlyCommit}
+use Rattle.model.specs.Cores.{Core, resting, turnedTo, performed, settledPlace, settledStopped, freed, becomes, acts, finishes, faulted, ends, inCommit, inEarlyFlush, inEarlyCommit}
 use Rattle.model.specs.Engine.{Engine, Outlet, coreAt, viewOf, change, memoryAfter, outletAfter}
 use Rattle.model.specs.Journal.{Journal, Book, Touch, Reads, Writes, Neither, touch, touches, ownMove, opened, has}
 use Rattle.laws.proofs.Lines.{overlay, length-overlay, overlay-clean, overlay-left}
-use Rattle.laws.proofs.Invariant.{scene, Good, Booked, Holder, Holding, Shared, SentIs, Inv}
+use Rattle.laws.proofs.Invariant.{scene, Good, Booked, Holder, Shared, SentIs, Inv}
 use Rattle.laws.proofs.Keeps.{InvAfter, good-in, booked-in, own-quiet, length-after}
 use Rattle.laws.proofs.Leaves.{UnitIs, finish-free, go-on}
 use Rattle.laws.proofs.Plain.{machineWith, one-more-sent}

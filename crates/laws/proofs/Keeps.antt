@@ -3,14 +3,13 @@
 use Prim.Native.Nat.{ℕ, _<_}
 use native.Mathlib.Omega.{arith}
 use mathlib.Core.Path.{_≡_, refl, sym, _∙_, ap, subst}
-use mathlib.Core.Logic.{_⊎_, inl, inr, _≢_}
-use mathlib.Core.Bool.{Bool, true, false, cond, _||_}
+use mathlib.Core.Logic.{inl, inr, _≢_}
+use mathlib.Core.Bool.{true, false}
 use mathlib.Core.List.{List, [], _∷_, _++_, map}
-use mathlib.Core.Option.{Option, none, some}
-use lib.Dec.{eqb}
+use mathlib.Core.Option.{some}
 use lib.ListN.{length, getD, set, length-map, List·getD-map}
-use Rattle.std.proofs.shelf.Lists.{length-set, getD-set-same, getD-set-other, set-getD, map-set, append-nil}
-use Rattle.std.proofs.shelf.Tests.{cases-bool, cases-eq, eq-eqb, ne-eqb, eqb-true, eqb-false, or-from, or-left, or-right, false≢true, true≢false}
+use Rattle.std.proofs.shelf.Lists.{length-set, getD-set-same, getD-set-other, map-set}
+use Rattle.std.proofs.shelf.Tests.{cases-bool, cases-eq, eq-eqb, ne-eqb, or-from, or-left, or-right, false≢true}
 use Rattle.formats.specs.declared.entry.SentEntry.{SentEntry}
 use Rattle.formats.specs.declared.instruction.Instruction.{Instruction}
 use Rattle.model.specs.declared.state.State.{State}
@@ -18,14 +17,14 @@ use Rattle.model.specs.declared.state.State.the-variants.{Bypass, Transaction, 
 use Rattle.model.specs.declared.state.Token.{Token}
 use Rattle.model.specs.declared.state.Token.the-variants.{Free, Core as CoreHas, Host}
 use Rattle.model.specs.Instructions.{Ask}
-use Rattle.model.specs.OneAtATime.{Machine, Turn, runs, turn, andThen, Settled, noCore}
-use Rattle.model.specs.Lines.{Line, Effect, Nothing, Wrote, Sent, tagged}
-use Rattle.model.specs.Cores.{Core, turnedTo, settle, Outcome}
-use Rattle.model.specs.Engine.{Engine, coreAt, blank, change, struck, struckAt, memoryAfter, outletAfter}
+use Rattle.model.specs.OneAtATime.{Machine, runs}
+use Rattle.model.specs.Lines.{Effect, Nothing, Wrote, Sent, tagged}
+use Rattle.model.specs.Cores.{Core, settle, Outcome}
+use Rattle.model.specs.Engine.{Engine, coreAt, blank, change, struck, struckAt, memoryAfter}
 use Rattle.model.specs.Runs.{Moved}
 use Rattle.model.specs.Journal.{Book, Journal, note, touch, ownMove, otherMove, has}
-use Rattle.laws.proofs.Lines.{overlay, Fit, Agree, fit-set}
-use Rattle.laws.proofs.Invariant.{scene, Follows, Good, Booked, Tracks, Holding, Holder, Shared, SentIs, HeldIs, Inv}
+use Rattle.laws.proofs.Lines.{fit-set}
+use Rattle.laws.proofs.Invariant.{Follows, Good, Booked, Holding, Holder, Shared, SentIs, HeldIs, Inv}
 
 -- a write where a block has no tag does not disturb it
 follows-write : (program : List Instruction) (m : List ℕ) (c : Core) (a w : ℕ) → Follows program m c → tagged (c .lines) a ≡ false → Follows program (set m a w) c

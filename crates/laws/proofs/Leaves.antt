@@ -3,26 +3,25 @@
 use Prim.Native.Nat.{ℕ, _<_}
 use mathlib.Core.Path.{_≡_, refl, sym, _∙_, ap, subst}
 use mathlib.Core.Logic.{_≢_}
-use mathlib.Core.Bool.{Bool, true, false, cond}
-use mathlib.Core.List.{List, [], _∷_, _++_}
-use mathlib.Core.Option.{Option, none, some}
-use lib.Dec.{eqb}
-use lib.ListN.{length, getD, set}
+use mathlib.Core.Bool.{false}
+use mathlib.Core.List.{List}
+use mathlib.Core.Option.{some}
+use lib.ListN.{length, set}
 use Rattle.std.proofs.shelf.Lists.{set-getD, append-nil}
-use Rattle.std.proofs.shelf.Tests.{ne-eqb, eq-eqb}
+use Rattle.std.proofs.shelf.Tests.{ne-eqb}
 use Rattle.answers.specs.declared.answer.Answer.{Answer}
 use Rattle.formats.specs.declared.entry.Mark.{Mark}
 use Rattle.formats.specs.declared.entry.SentEntry.{SentEntry}
 use Rattle.model.specs.declared.state.Token.{Token}
 use Rattle.model.specs.declared.state.Token.the-variants.{Free, Core as CoreHas, Host}
 use Rattle.model.specs.Instructions.{Ask}
-use Rattle.model.specs.OneAtATime.{Machine, noCore, run, unit, runs}
+use Rattle.model.specs.OneAtATime.{Machine, noCore, run, unit}
 use Rattle.model.specs.Lines.{Effect, Nothing}
 use Rattle.model.specs.Cores.{Core, settle, settledStopped, settledPlace, freed, becomes, acts, takesToken, finishes}
 use Rattle.model.specs.Engine.{Engine, coreAt, viewOf, change, memoryAfter}
 use Rattle.model.specs.Journal.{Journal, touch, ownMove}
 use Rattle.laws.proofs.Invariant.{scene, Good, Booked, Holder, Holding, Shared, SentIs, Inv}
-use Rattle.laws.proofs.Keeps.{Quiet, Step, InvAfter, Own, kept-own, kept-aside, free-quiet, own-quiet}
+use Rattle.laws.proofs.Keeps.{Quiet, InvAfter, Own, kept-own, kept-aside, free-quiet, own-quiet}
 use Rattle.laws.proofs.Turns.{core-settled, ran-more}
 
 -- a core that is not in one of the three states of the one that has the token

@@ -2,9 +2,8 @@
 -- Assumes nothing.
 use Prim.Native.Nat.{ℕ, _<_}
 use mathlib.Core.Path.{_≡_, refl, sym, _∙_, ap, subst}
-use mathlib.Core.Bool.{Bool, true, false, cond}
+use mathlib.Core.Bool.{false}
 use mathlib.Core.List.{List, [], _∷_, _++_}
-use mathlib.Core.Option.{some}
 use lib.Dec.{ltb}
 use lib.ListN.{length, getD, set}
 use Rattle.std.proofs.shelf.Lists.{append-assoc, length-set}
@@ -13,16 +12,16 @@ use Rattle.answers.specs.declared.answer.Answer.the-variants.{Running, Waiting,
 use Rattle.formats.specs.declared.entry.Mark.the-variants.{Completed, Discarded}
 use Rattle.formats.specs.declared.entry.SentEntry.{SentEntry}
 use Rattle.model.specs.declared.state.State.{State}
-use Rattle.model.specs.declared.state.State.the-variants.{Bypass, Transaction, Commit, Abort, EarlyFlush, EarlyCommit, Stopped}
+use Rattle.model.specs.declared.state.State.the-variants.{Bypass, Transaction, Abort, Stopped}
 use Rattle.model.specs.declared.state.Token.{Token}
 use Rattle.model.specs.declared.state.Token.the-variants.{Free, Core as CoreHas, Host}
 use Rattle.model.specs.Instructions.{Ask, Place, onward, past, Outer, OuterFaults, OuterMoves, OuterLoads, OuterStores, OuterSends, Opens, Stops, outerAt}
-use Rattle.model.specs.OneAtATime.{Machine, run}
+use Rattle.model.specs.OneAtATime.{Machine}
 use Rattle.model.specs.Lines.{Effect, Nothing, Wrote, Sent}
-use Rattle.model.specs.Cores.{Core, Outcome, resting, rolledBack, settle, ifFree, freed, becomes, plain, plainSend, faulted, inBypass, byState}
+use Rattle.model.specs.Cores.{Core, Outcome, resting, rolledBack, settle, ifFree, freed, becomes, plain, plainSend, inBypass, byState}
 use Rattle.model.specs.Engine.{Engine, coreAt, viewOf, change, memoryAfter}
 use Rattle.model.specs.Journal.{Journal, touch, ownMove}
-use Rattle.laws.proofs.Invariant.{scene, Follows, Good, Booked, Tracks, Holder, Shared, SentIs, Inv}
+use Rattle.laws.proofs.Invariant.{Good, Booked, Holder, Shared, SentIs, Inv}
 use Rattle.laws.proofs.Keeps.{InvAfter, free-quiet}
 use Rattle.laws.proofs.Leaves.{NoHolder, UnitIs, only-core, finish-aside, finish-free}
 

@@ -2,32 +2,30 @@
 -- Assumes nothing.
 use Prim.Native.Nat.{ℕ, suc, _<_}
 use mathlib.Core.Path.{_≡_, refl, sym, _∙_, ap, subst}
-use mathlib.Core.Logic.{_⊎_, inl, inr}
-use mathlib.Core.Bool.{Bool, true, false, cond, _||_, _&&_, and-true, and-false}
+use mathlib.Core.Logic.{inl, inr}
+use mathlib.Core.Bool.{true, false, _||_, _&&_, and-true, and-false}
 use mathlib.Core.List.{List, [], _∷_, _++_}
-use mathlib.Core.Option.{some}
 use lib.Dec.{ltb, eqb}
-use lib.ListN.{length, getD, set}
+use lib.ListN.{length, getD}
 use Rattle.std.proofs.shelf.Tests.{cases-bool, cond-both, cond-true, eqb-true, eq-eqb, or-left, or-right, true≢false}
 use Rattle.answers.specs.declared.answer.Fault.{Fault}
 use Rattle.answers.specs.declared.answer.Answer.the-variants.{Running, Waiting, Done, Committing, Early, Retried, Faulted}
 use Rattle.formats.specs.declared.entry.Mark.the-variants.{Completed, Discarded}
 use Rattle.formats.specs.declared.entry.SentEntry.{SentEntry}
-use Rattle.model.specs.declared.state.State.{State}
 use Rattle.model.specs.declared.state.State.the-variants.{Bypass, Transaction, Commit, EarlyFlush, EarlyCommit, Stopped}
-use Rattle.model.specs.declared.state.Token.the-variants.{Free, Core as CoreHas}
+use Rattle.model.specs.declared.state.Token.the-variants.{Free}
 use Rattle.model.specs.Instructions.{Ask, Place, onward, past, asks, innerAt}
 use Rattle.model.specs.Instructions.{Inner, InnerFaults, InnerMoves, InnerLoads, InnerStores, InnerSends, Closes, Restarts, TakesToken}
-use Rattle.model.specs.OneAtATime.{Machine, Inside, further, run, unit}
+use Rattle.model.specs.OneAtATime.{Inside, further, run, unit}
 use Rattle.model.specs.Lines.{Line, Nothing, holds, valueAt, tagged, loadedLine, storedLine, storeAt, anyDirty}
-use Rattle.model.specs.Cores.{Core, resting, turnedTo, performed, rolledBack, settle, settledPlace, freed, becomes, takesToken, faulted, ends, early, withLine, closes, inTransaction}
+use Rattle.model.specs.Cores.{Core, resting, turnedTo, performed, rolledBack, settledPlace, freed, becomes, takesToken, faulted, ends, early, closes, inTransaction}
 use Rattle.model.specs.Engine.{Engine, coreAt, viewOf}
-use Rattle.model.specs.Journal.{Journal, Book, has, Touch, Reads, Writes, Neither, touch, touches, opened}
+use Rattle.model.specs.Journal.{Journal, has, touch, touches, opened}
 use Rattle.laws.proofs.Lines.{overlay, length-overlay, overlay-append, overlay-clean, getD-overlay, getD-overlay-other, overlay-storeAt}
 use Rattle.laws.proofs.Lines.{Agree, holds-append, tagged-append, holds-storeAt, tagged-storeAt, fit-append, fit-storeAt, fit-agree}
-use Rattle.laws.proofs.Invariant.{scene, Follows, Good, Booked, Tracks, Holder, Holding, Inv}
+use Rattle.laws.proofs.Invariant.{scene, Follows, Good, Booked, Tracks, Holder, Inv}
 use Rattle.laws.proofs.Keeps.{InvAfter, good-in, booked-in, free-quiet}
-use Rattle.laws.proofs.Leaves.{NoHolder, UnitIs, only-core, finish-free, take-token}
+use Rattle.laws.proofs.Leaves.{NoHolder, only-core, finish-free, take-token}
 use Rattle.laws.proofs.Plain.{if-free, when-free, waits, machineWith}
 use Rattle.laws.proofs.Decoding.{decoded}
 

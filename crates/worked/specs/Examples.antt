@@ -6,20 +6,20 @@ use Prim.Native.Nat.{ℕ, _<_}
 use mathlib.Core.Path.{_≡_}
 use mathlib.Core.List.{List, [], _∷_, map}
 use lib.Dec.{lit<}
-use Rattle.std.specs.declared.result.Result.the-variants.{Ok, Err}
+use Rattle.std.specs.declared.result.Result.the-variants.{Ok}
 use Rattle.formats.specs.declared.immediate.Immediate.{Immediate}
 use Rattle.formats.specs.declared.register.Register.the-variants.{R0, R1, R2, R3}
 use Rattle.formats.specs.declared.entry.Mark.{Mark}
-use Rattle.formats.specs.declared.entry.Mark.the-variants.{Completed, Discarded, Kept}
+use Rattle.formats.specs.declared.entry.Mark.the-variants.{Completed}
 use Rattle.formats.specs.declared.instruction.Instruction.{Instruction}
-use Rattle.formats.specs.declared.instruction.Instruction.the-variants.{Halt, Set, Add, Sub, Mean, Load, Store, Jump, Jz, Jlt, Begin, End, Retry, Early as EarlyToken, Out}
+use Rattle.formats.specs.declared.instruction.Instruction.the-variants.{Halt, Set, Add, Sub, Mean, Load, Store, Begin, End}
 use Rattle.answers.specs.declared.answer.Fault.the-variants.{AddressOutside}
 use Rattle.answers.specs.declared.answer.Answer.{Answer}
-use Rattle.answers.specs.declared.answer.Answer.the-variants.{Running, Waiting, Done, Committing, Early, Full, RolledBack, Retried, Faulted, Stopped}
+use Rattle.answers.specs.declared.answer.Answer.the-variants.{Running, Waiting, Done, Committing, Early, RolledBack, Faulted}
 use Rattle.model.specs.declared.call.Call.{Call}
-use Rattle.model.specs.declared.call.Call.the-variants.{Step, Turn, Clear, Hold, Read, GiveBack, Take}
+use Rattle.model.specs.declared.call.Call.the-variants.{Step}
 use Rattle.model.specs.declared.call.Reply.{Reply}
-use Rattle.model.specs.declared.call.Reply.the-variants.{Stepped, Cleared, Held, Word, GivenBack, Taken}
+use Rattle.model.specs.declared.call.Reply.the-variants.{Stepped}
 use Rattle.model.specs.Instructions.{reg}
 use Rattle.model.specs.OneAtATime.{Turn as Entry}
 use Rattle.model.specs.Engine.{Outlet, Engine, make, coreAt}

@@ -2,10 +2,10 @@
 -- Assumes nothing.
 use Prim.Native.Nat.{ℕ}
 use mathlib.Core.Path.{_≡_}
-use mathlib.Core.List.{List, [], _∷_}
+use mathlib.Core.List.{[], _∷_}
 use lib.ListN.{replicate}
 use Rattle.std.specs.declared.result.Result.the-variants.{Ok, Err}
-use Rattle.formats.specs.declared.entry.Mark.the-variants.{Completed, Discarded}
+use Rattle.formats.specs.declared.entry.Mark.the-variants.{Completed}
 use Rattle.formats.specs.declared.register.Register.the-variants.{R1}
 use Rattle.formats.specs.declared.instruction.Instruction.{Instruction}
 use Rattle.formats.specs.declared.instruction.Instruction.the-variants.{Halt, Set, Begin, End}

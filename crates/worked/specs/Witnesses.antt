@@ -5,30 +5,24 @@
 use Prim.Native.Nat.{ℕ}
 use mathlib.Core.Path.{_≡_}
 use mathlib.Core.Bool.{true, false}
-use mathlib.Core.List.{List, [], _∷_, _++_, map}
+use mathlib.Core.List.{List, [], _∷_, _++_}
 use mathlib.Core.Option.{Option, some}
-use lib.Dec.{lit<}
 use lib.ListN.{take}
-use Rattle.std.specs.declared.result.Result.the-variants.{Ok, Err}
-use Rattle.formats.specs.declared.register.Register.the-variants.{R0, R1, R2}
+use Rattle.std.specs.declared.result.Result.the-variants.{Ok}
+use Rattle.formats.specs.declared.register.Register.the-variants.{R0, R1}
 use Rattle.formats.specs.declared.entry.SentEntry.{SentEntry}
 use Rattle.formats.specs.declared.entry.Mark.the-variants.{Completed, Discarded, Kept}
-use Rattle.formats.specs.declared.instruction.Instruction.{Instruction}
 use Rattle.formats.specs.declared.instruction.Instruction.the-variants.{Halt, Set, Load, Store, Begin, End, Early as EarlyToken, Out}
 use Rattle.answers.specs.declared.answer.Fault.the-variants.{AddressOutside, HaltInBlock}
-use Rattle.answers.specs.declared.answer.Answer.{Answer}
-use Rattle.answers.specs.declared.answer.Answer.the-variants.{Running, Waiting, Done, Committing, Early, Full, RolledBack, Faulted}
-use Rattle.model.specs.declared.state.Token.the-variants.{Free, Host}
+use Rattle.answers.specs.declared.answer.Answer.the-variants.{Running, Done, Early, Full, RolledBack, Faulted}
 use Rattle.model.specs.declared.call.Call.{Call}
-use Rattle.model.specs.declared.call.Call.the-variants.{Step, Clear, Hold, Read, GiveBack, Take}
-use Rattle.model.specs.declared.call.Reply.{Reply}
-use Rattle.model.specs.declared.call.Reply.the-variants.{Stepped, Held, Word, GivenBack, Taken}
-use Rattle.model.specs.Instructions.{Place}
-use Rattle.model.specs.OneAtATime.{Turn as Entry, Settled, Machine, runs}
+use Rattle.model.specs.declared.call.Call.the-variants.{Step, Hold, Read, GiveBack, Take}
+use Rattle.model.specs.declared.call.Reply.the-variants.{Stepped, Word, Taken}
+use Rattle.model.specs.OneAtATime.{Settled, Machine, runs}
 use Rattle.model.specs.Engine.{Engine}
 use Rattle.model.specs.Runs.{replies}
 use Rattle.model.specs.Journal.{Run, mores, fresh}
-use Rattle.worked.specs.Examples.{imm, n0, n1, engineOf, entryOf, steps, answers, counterProgram, counterRun, pairProgram}
+use Rattle.worked.specs.Examples.{n0, n1, engineOf, entryOf, steps, answers, counterProgram, counterRun, pairProgram}
 
 -- the run of an engine through a list of calls
 abbrev pub runOf : Engine → List Call → Run
