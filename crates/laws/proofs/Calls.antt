@@ -28,7 +28,8 @@ use Rattle.model.specs.Cores.{byState}
 use Rattle.model.specs.Engine.{Engine, Outlet, Settings, make, newCores, check, blank, coreAt, viewOf}
 use Rattle.model.specs.Calls.{outcomeOf, After, stays, stepped, step, wanted, advanced, clearIf, emptied, holdIf, giveBackIf, takeFrom}
 use Rattle.model.specs.Runs.{event, movedEvent, clearEvent, holdEvent, takeEvent, played}
-use Rattle.model.specs.Journal.{Journal, Run, closed, newJournal, startOf, note, more, mores, fresh, history}
+use Rattle.model.specs.Journal.{Journal, Run, newJournal, startOf, note, more, mores, fresh, history}
+use Rattle.laws.proofs.Books.{closed}
 use Rattle.laws.proofs.Invariant.{Good, Booked, Shared, SentIs, HeldIs, Inv}
 use Rattle.laws.proofs.Keeps.{InvAfter, other-still, free-core}
 use Rattle.laws.proofs.Plain.{stopped, aborted, bypass}

@@ -9,7 +9,7 @@ use Rattle.answers.specs.declared.answer.Fault.the-variants.{AddressOutside, To
 use Rattle.formats.specs.declared.instruction.Instruction.{Instruction}
 use Rattle.model.specs.Instructions.{Ask, Moves, Loads, Stores, Sends, Begins, Ends, Halts, Retries, Earlies, asks, Place, past, closing, inner, innerAt}
 use Rattle.model.specs.Instructions.{Inner, InnerFaults, InnerMoves, InnerLoads, InnerStores, InnerSends, Closes, Restarts, TakesToken}
-use Rattle.model.specs.Journal.{Touch, Reads, Writes, Neither, touch}
+use Rattle.model.specs.Blocks.{Touch, Reads, Writes, Neither, touch}
 
 -- what the decoder's answer says of the word that is touched
 abbrev pub Touches : Inner → ℕ → Touch → Type 0

@@ -22,7 +22,9 @@ use Rattle.model.specs.Lines.{Effect, Nothing, Wrote, Sent, tagged}
 use Rattle.model.specs.Cores.{Core, settle, Outcome}
 use Rattle.model.specs.Engine.{Engine, coreAt, blank, change, struck, struckAt, memoryAfter}
 use Rattle.model.specs.Runs.{Moved}
-use Rattle.model.specs.Journal.{Book, Journal, note, touch, ownMove, otherMove, has}
+use Rattle.model.specs.Journal.{Journal, note}
+use Rattle.model.specs.Blocks.{touch}
+use Rattle.laws.proofs.Books.{Book, ownBook, otherBook, has, books}
 use Rattle.laws.proofs.Lines.{fit-set}
 use Rattle.laws.proofs.Invariant.{Follows, Good, Booked, Holding, Holder, Shared, SentIs, HeldIs, Inv}
 
@@ -47,14 +49,14 @@ booked-in s b c e g = subst (λ x. Booked x b c) (sym e) g
 pub other-write :
     (s : State) (program : List Instruction) (m : List ℕ) (t t′ : Token) (k : ℕ) (c : Core) (b : Book) (a w : ℕ) →
     c .state ≡ s → (t ≡ CoreHas k → ⊥) → Good s program m t k c → Booked s b c →
-    Good (struckAt s a c .state) program (set m a w) t′ k (struckAt s a c) × Booked (struckAt s a c .state) (otherMove (Wrote a w) b) (struckAt s a c)
+    Good (struckAt s a c .state) program (set m a w) t′ k (struckAt s a c) × Booked (struckAt s a c .state) (otherBook (Wrote a w) b) (struckAt s a c)
 other-write Bypass program m t t′ k c b a w e apart g p = rw e (tt, p)
 other-write Transaction program m t t′ k c b a w e apart g p =
     elim (cases-bool (tagged (c .lines) a)) [
       | inl q ↦ rw q (tt, (p .isOpen, or-right (b .hit) (has a (b .taken)) (p .taken a ∙ q)))
       | inr q ↦ rw q (
         good-in Transaction program (set m a w) t′ k c e (follows-write program m c a w g q),
-        booked-in Transaction (otherMove (Wrote a w) b) c e (record {
+        booked-in Transaction (otherBook (Wrote a w) b) c e (record {
           isOpen = p .isOpen;
           hit = or-from (b .hit) (has a (b .taken)) (p .hit) (p .taken a ∙ q);
           taken = p .taken;
@@ -90,7 +92,7 @@ Quiet (Sent x) t t′ i = (k : ℕ) → k ≢ i → t ≡ CoreHas k → ⊥
 other :
     (x : Effect) (program : List Instruction) (m : List ℕ) (t t′ : Token) (i k : ℕ) (c : Core) (b : Book) →
     k ≢ i → Quiet x t t′ i → Good (c .state) program m t k c → Booked (c .state) b c →
-    Good (struck x c .state) program (memoryAfter x m) t′ k (struck x c) × Booked (struck x c .state) (otherMove x b) (struck x c)
+    Good (struck x c .state) program (memoryAfter x m) t′ k (struck x c) × Booked (struck x c .state) (otherBook x b) (struck x c)
 other Nothing program m t t′ i k c b ne q g p = (other-still (c .state) program m t t′ k c (q k ne) g, p)
 other (Wrote a w) program m t t′ i k c b ne q g p = other-write (c .state) program m t t′ k c b a w refl (q k ne) g p
 other (Sent x) program m t t′ i k c b ne q g p = (other-still (c .state) program m t t′ k c (λ h. absurd (q k ne h)) g, p)
@@ -146,7 +148,7 @@ pub record Step (e : Engine) (j : Journal) (h : Inv e j) (i : ℕ) (ask : Ask) (
   pub settled : machine .cores ≡ set (h .now .cores) i (settle (o .core))
   pub size : length (machine .memory) ≡ length (e .memory)
   pub good : Good (o .core .state) (e .program) (memoryAfter (o .effect) (e .memory)) (o .token) i (o .core)
-  pub booked : Booked (o .core .state) (ownMove (touch ask) (o .answer) (j .books i)) (o .core)
+  pub booked : Booked (o .core .state) (ownBook (touch ask) (o .answer) (books (j .moves) i)) (o .core)
 
 -- the invariant after a step
 abbrev pub InvAfter : Engine → Journal → ℕ → Ask → Outcome → Type 0
@@ -178,8 +180,8 @@ kept e j h i ask o b p shared held = record {
     others :
         (k : ℕ) → k ≢ i →
         Good (struck (o .effect) (coreAt e k) .state) (e .program) (memoryAfter (o .effect) (e .memory)) (o .token) k (struck (o .effect) (coreAt e k))
-        × Booked (struck (o .effect) (coreAt e k) .state) (otherMove (o .effect) (j .books k)) (struck (o .effect) (coreAt e k))
-    others k q = other (o .effect) (e .program) (e .memory) (e .token) (o .token) i k (coreAt e k) (j .books k) q (p .quiet) (h .good k) (h .booked k)
+        × Booked (struck (o .effect) (coreAt e k) .state) (otherBook (o .effect) (books (j .moves) k)) (struck (o .effect) (coreAt e k))
+    others k q = other (o .effect) (e .program) (e .memory) (e .token) (o .token) i k (coreAt e k) (books (j .moves) k) q (p .quiet) (h .good k) (h .booked k)
 
 -- the token is in one place
 

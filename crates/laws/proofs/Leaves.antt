@@ -19,7 +19,9 @@ use Rattle.model.specs.OneAtATime.{Machine, noCore, run, unit}
 use Rattle.model.specs.Lines.{Effect, Nothing}
 use Rattle.model.specs.Cores.{Core, settle, settledStopped, settledPlace, freed, becomes, acts, takesToken, finishes}
 use Rattle.model.specs.Engine.{Engine, coreAt, viewOf, change, memoryAfter}
-use Rattle.model.specs.Journal.{Journal, touch, ownMove}
+use Rattle.model.specs.Journal.{Journal}
+use Rattle.model.specs.Blocks.{touch}
+use Rattle.laws.proofs.Books.{ownBook, books}
 use Rattle.laws.proofs.Invariant.{scene, Good, Booked, Holder, Holding, Shared, SentIs, Inv}
 use Rattle.laws.proofs.Keeps.{Quiet, InvAfter, Own, kept-own, kept-aside, free-quiet, own-quiet}
 use Rattle.laws.proofs.Turns.{core-settled, ran-more}
@@ -36,7 +38,7 @@ same-cores e j h i c′ s = sym (set-getD (h .now .cores) i noCore) ∙ ap (λ x
 pub only-core :
     (e : Engine) (j : Journal) (h : Inv e j) (i : ℕ) → i < length (e .cores) → (ask : Ask) (c′ : Core) (answer : Answer) →
     NoHolder e i → settle c′ ≡ settle (coreAt e i) →
-    Good (c′ .state) (e .program) (e .memory) (e .token) i c′ → Booked (c′ .state) (ownMove (touch ask) answer (j .books i)) c′ →
+    Good (c′ .state) (e .program) (e .memory) (e .token) i c′ → Booked (c′ .state) (ownBook (touch ask) answer (books (j .moves) i)) c′ →
     InvAfter e j i ask (becomes (viewOf e i) c′ answer)
 only-core e j h i b ask c′ answer not-i s g k =
     kept-aside e j h i ask (becomes (viewOf e i) c′ answer) b
@@ -72,7 +74,7 @@ pub record UnitIs (e : Engine) (j : Journal) (h : Inv e j) (i : ℕ) (mark : Mar
 pub finish-aside :
     (e : Engine) (j : Journal) (h : Inv e j) (i : ℕ) → i < length (e .cores) → (ask : Ask) (c′ : Core) (mark : Mark) (n : ℕ) (answer : Answer) →
     NoHolder e i → (u : UnitIs e j h i mark n c′) → u .machine .memory ≡ h .now .memory → u .machine .sent ≡ h .now .sent →
-    Good (c′ .state) (e .program) (e .memory) (freed (e .token) i) i c′ → Booked (c′ .state) (ownMove (touch ask) answer (j .books i)) c′ →
+    Good (c′ .state) (e .program) (e .memory) (freed (e .token) i) i c′ → Booked (c′ .state) (ownBook (touch ask) answer (books (j .moves) i)) c′ →
     InvAfter e j i ask (finishes (viewOf e i) c′ Nothing mark n answer)
 finish-aside e j h i b ask c′ mark n answer not-i u m s g k =
     let f = freed-aside (e .token) e j (h .now) i not-i (h .shared) in
@@ -94,7 +96,7 @@ pub finish-free :
     Quiet x (e .token) (freed (e .token) i) i → freed (e .token) i ≡ Free →
     (u : UnitIs e j h i mark n c′) → length (u .machine .memory) ≡ length (e .memory) → u .machine .memory ≡ memoryAfter x (e .memory) →
     SentIs (change e i (finishes (viewOf e i) c′ x mark n answer)) j (u .machine .sent) →
-    Good (c′ .state) (e .program) (memoryAfter x (e .memory)) (freed (e .token) i) i c′ → Booked (c′ .state) (ownMove (touch ask) answer (j .books i)) c′ →
+    Good (c′ .state) (e .program) (memoryAfter x (e .memory)) (freed (e .token) i) i c′ → Booked (c′ .state) (ownBook (touch ask) answer (books (j .moves) i)) c′ →
     InvAfter e j i ask (finishes (viewOf e i) c′ x mark n answer)
 finish-free e j h i b ask c′ x mark n answer q f u l m s g k =
     let o = finishes (viewOf e i) c′ x mark n answer in
@@ -115,7 +117,7 @@ pub take-token :
     (e : Engine) (j : Journal) (h : Inv e j) (i : ℕ) → i < length (e .cores) → (ask : Ask) (c′ : Core) (answer : Answer) →
     e .token ≡ Free → settle c′ ≡ settle (coreAt e i) →
     Holding (e .program) (h .now) (e .memory) (h .now .sent) c′ → SentIs e j (h .now .sent) →
-    Good (c′ .state) (e .program) (e .memory) (CoreHas i) i c′ → Booked (c′ .state) (ownMove (touch ask) answer (j .books i)) c′ →
+    Good (c′ .state) (e .program) (e .memory) (CoreHas i) i c′ → Booked (c′ .state) (ownBook (touch ask) answer (books (j .moves) i)) c′ →
     InvAfter e j i ask (takesToken (viewOf e i) c′ answer)
 take-token e j h i b ask c′ answer f s w v g k =
     kept-own e j h i ask (takesToken (viewOf e i) c′ answer) b
@@ -135,7 +137,7 @@ pub go-on :
     (e : Engine) (j : Journal) (h : Inv e j) (i : ℕ) → i < length (e .cores) → (ask : Ask) (c′ : Core) (x : Effect) (answer : Answer) →
     e .token ≡ CoreHas i → settle c′ ≡ settle (coreAt e i) → (s : List SentEntry) →
     Holding (e .program) (h .now) (memoryAfter x (e .memory)) s c′ → SentIs (change e i (acts (viewOf e i) c′ x answer)) j s →
-    Good (c′ .state) (e .program) (memoryAfter x (e .memory)) (e .token) i c′ → Booked (c′ .state) (ownMove (touch ask) answer (j .books i)) c′ →
+    Good (c′ .state) (e .program) (memoryAfter x (e .memory)) (e .token) i c′ → Booked (c′ .state) (ownBook (touch ask) answer (books (j .moves) i)) c′ →
     InvAfter e j i ask (acts (viewOf e i) c′ x answer)
 go-on e j h i b ask c′ x answer f s l w v g k =
     let o = acts (viewOf e i) c′ x answer in

@@ -20,7 +20,9 @@ use Rattle.model.specs.OneAtATime.{Machine}
 use Rattle.model.specs.Lines.{Effect, Nothing, Wrote, Sent}
 use Rattle.model.specs.Cores.{Core, Outcome, resting, rolledBack, settle, ifFree, freed, becomes, plain, plainSend, inBypass, byState}
 use Rattle.model.specs.Engine.{Engine, coreAt, viewOf, change, memoryAfter}
-use Rattle.model.specs.Journal.{Journal, touch, ownMove}
+use Rattle.model.specs.Journal.{Journal}
+use Rattle.model.specs.Blocks.{touch}
+use Rattle.laws.proofs.Books.{ownBook, books}
 use Rattle.laws.proofs.Invariant.{Good, Booked, Holder, Shared, SentIs, Inv}
 use Rattle.laws.proofs.Keeps.{InvAfter, free-quiet}
 use Rattle.laws.proofs.Leaves.{NoHolder, UnitIs, only-core, finish-aside, finish-free}
@@ -56,8 +58,8 @@ aborted e j h i b ask st =
     (rw st refl) tt refl
 
 -- no block is open
-booked-bypass : (e : Engine) (j : Journal) (h : Inv e j) (i : ℕ) → coreAt e i .state ≡ Bypass → j .books i .isOpen ≡ false
-booked-bypass e j h i st = subst (λ s. Booked s (j .books i) (coreAt e i)) st (h .booked i)
+booked-bypass : (e : Engine) (j : Journal) (h : Inv e j) (i : ℕ) → coreAt e i .state ≡ Bypass → books (j .moves) i .isOpen ≡ false
+booked-bypass e j h i st = subst (λ s. Booked s (books (j .moves) i) (coreAt e i)) st (h .booked i)
 
 -- one more entry is sent
 pub one-more-sent : (taken waiting before sent : List SentEntry) (y : SentEntry) → taken ++ waiting ≡ before ++ sent → taken ++ (waiting ++ y ∷ []) ≡ before ++ (sent ++ y ∷ [])
@@ -74,7 +76,7 @@ module _ (e : Engine) (j : Journal) (h : Inv e j) (i : ℕ) (b : i < length (e .
   -- a plain instruction that neither reads, writes nor sends
   plain-aside :
       (s : State) (p : Place) → Good s (e .program) (e .memory) (freed (e .token) i) i (resting s p (coreAt e i .saved)) →
-      Booked s (ownMove (touch ask) Done (j .books i)) (resting s p (coreAt e i .saved)) →
+      Booked s (ownBook (touch ask) Done (books (j .moves) i)) (resting s p (coreAt e i .saved)) →
       (u : UnitIs e j h i Completed 1 (resting s p (coreAt e i .saved))) → u .machine .memory ≡ h .now .memory → u .machine .sent ≡ h .now .sent →
       InvAfter e j i ask (plain (viewOf e i) (coreAt e i) s p Nothing)
   plain-aside s p g k u m n = finish-aside e j h i b ask (resting s p (coreAt e i .saved)) Completed 1 Done not-i u m n g k

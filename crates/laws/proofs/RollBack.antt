@@ -31,7 +31,9 @@ use Rattle.model.specs.Cores.{Core, View, Outcome, ifFree, early, byState, inBy
 use Rattle.model.specs.Engine.{Engine, coreAt, viewOf}
 use Rattle.model.specs.Calls.{outcomeOf, After, stays, stepped, step, wanted, clear, hold, takeOldest}
 use Rattle.model.specs.Runs.{Event, Moved, Silent, Clears, Holds, Takes, event, movedEvent, clearEvent, holdEvent, takeEvent}
-use Rattle.model.specs.Journal.{Run, Book}
+use Rattle.model.specs.Journal.{Run}
+use Rattle.laws.proofs.Blocks.{books-tell}
+use Rattle.laws.proofs.Books.{Book, books}
 use Rattle.model.specs.Laws.{RollBackAt}
 use Rattle.laws.proofs.Invariant.{Booked, Inv}
 
@@ -178,5 +180,8 @@ seen e Take = seen-take e (takeOldest e .answer)
 
 pub roll-back-at : (r : Run) → Inv (r .engine) (r .journal) → RollBackAt r
 roll-back-at r h c i ask answer x v =
-    subst (λ a. Tells a (r .journal .books i)) (seen (r .engine) c i ask answer x v)
-    (told (coreAt (r .engine) i .state) (viewOf (r .engine) i) (coreAt (r .engine) i) (r .journal .books i) (h .booked i))
+    let moves = r .journal .moves in
+    let t : Tells answer (books moves i) =
+    subst (λ a. Tells a (books moves i)) (seen (r .engine) c i ask answer x v)
+    (told (coreAt (r .engine) i .state) (viewOf (r .engine) i) (coreAt (r .engine) i) (books moves i) (h .booked i)) in
+    (λ p. books-tell moves i .0 (t .0 p), λ p. t .1 (books-tell moves i .1 p))

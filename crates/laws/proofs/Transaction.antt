@@ -20,7 +20,9 @@ use Rattle.model.specs.OneAtATime.{Inside, further, run, unit}
 use Rattle.model.specs.Lines.{Line, Nothing, holds, valueAt, tagged, loadedLine, storedLine, storeAt, anyDirty}
 use Rattle.model.specs.Cores.{Core, resting, turnedTo, performed, rolledBack, settledPlace, freed, becomes, takesToken, faulted, ends, early, closes, inTransaction}
 use Rattle.model.specs.Engine.{Engine, coreAt, viewOf}
-use Rattle.model.specs.Journal.{Journal, has, touch, touches, opened}
+use Rattle.model.specs.Journal.{Journal}
+use Rattle.model.specs.Blocks.{touch}
+use Rattle.laws.proofs.Books.{has, touches, opened, books}
 use Rattle.laws.proofs.Lines.{overlay, length-overlay, overlay-append, overlay-clean, getD-overlay, getD-overlay-other, overlay-storeAt}
 use Rattle.laws.proofs.Lines.{Agree, holds-append, tagged-append, holds-storeAt, tagged-storeAt, fit-append, fit-storeAt, fit-agree}
 use Rattle.laws.proofs.Invariant.{scene, Follows, Good, Booked, Tracks, Holder, Inv}
@@ -42,8 +44,8 @@ module _ (e : Engine) (j : Journal) (h : Inv e j) (i : ℕ) (b : i < length (e .
   follows : Follows (e .program) (e .memory) c
   follows = subst (λ s. Good s (e .program) (e .memory) (e .token) i c) st (h .good i)
 
-  tracks : Tracks (j .books i) c
-  tracks = subst (λ s. Booked s (j .books i) c) st (h .booked i)
+  tracks : Tracks (books (j .moves) i) c
+  tracks = subst (λ s. Booked s (books (j .moves) i) c) st (h .booked i)
 
   saved-place : settledPlace (c .state) c ≡ c .saved
   saved-place = rw st refl
@@ -61,13 +63,13 @@ module _ (e : Engine) (j : Journal) (h : Inv e j) (i : ℕ) (b : i < length (e .
 
   -- the core has performed an instruction of its block
   runs-on :
-      (p : Place) (depth : ℕ) (ls : List Line) → Follows (e .program) (e .memory) (performed c p depth ls) → Tracks (touches (touch ask) (j .books i)) (performed c p depth ls) →
+      (p : Place) (depth : ℕ) (ls : List Line) → Follows (e .program) (e .memory) (performed c p depth ls) → Tracks (touches (touch ask) (books (j .moves) i)) (performed c p depth ls) →
       InvAfter e j i ask (becomes (viewOf e i) (performed c p depth ls) Running)
   runs-on p depth ls f t =
       only-core e j h i b ask (performed c p depth ls) Running not-i (rw st refl)
       (good-in Transaction (e .program) (e .memory) (e .token) i (performed c p depth ls) st f)
-      (subst (λ k. Booked (c .state) k (performed c p depth ls)) (sym (cond-true (j .books i .isOpen) (touches (touch ask) (j .books i)) opened (tracks .isOpen)))
-      (booked-in Transaction (touches (touch ask) (j .books i)) (performed c p depth ls) st t))
+      (subst (λ k. Booked (c .state) k (performed c p depth ls)) (sym (cond-true (books (j .moves) i .isOpen) (touches (touch ask) (books (j .moves) i)) opened (tracks .isOpen)))
+      (booked-in Transaction (touches (touch ask) (books (j .moves) i)) (performed c p depth ls) st t))
 
   -- the core takes the token to commit early
   takes-early : InvAfter e j i ask (early (viewOf e i) c)

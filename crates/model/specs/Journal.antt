@@ -1,91 +1,16 @@
--- What an observer notes of a run, from making on: each core's block, and what the laws look back to.
---   Book      what is known of a core's block, from answers, instructions performed and words written
+-- What an observer notes of a run, from making on: what the laws look back to.
 --   Journal   all that is noted
 --   history   a whole run: the engine and the journal after a list of calls
 -- Assumes nothing.
 use Prim.Native.Nat.{ℕ}
-use mathlib.Core.Bool.{Bool, true, false, cond, _||_}
 use mathlib.Core.List.{List, [], _∷_, _++_, map}
-use lib.Dec.{eqb}
-use Rattle.answers.specs.declared.answer.Answer.{Answer}
-use Rattle.answers.specs.declared.answer.Answer.the-variants.{Running, Waiting, Done, Committing, Early, Full, RolledBack, Retried, Faulted, Stopped as SaysStopped}
 use Rattle.formats.specs.declared.entry.SentEntry.{SentEntry}
 use Rattle.model.specs.declared.call.Call.{Call}
-use Rattle.model.specs.Instructions.{Ask, Moves, Loads, Stores, Sends, Begins, Ends, Halts, Retries, Earlies}
 use Rattle.model.specs.OneAtATime.{Machine, Turn as Entry}
-use Rattle.model.specs.Lines.{Effect, Nothing, Wrote, Sent}
 use Rattle.model.specs.Cores.{settle}
 use Rattle.model.specs.Engine.{Engine, Outlet, Settings, make}
-use Rattle.model.specs.Calls.{hold}
 use Rattle.model.specs.Runs.{played, Event, event, Moved, Clears, Holds, Takes, Silent}
-
--- what the observer knows of a core's block
-pub record Book : Type 0 where
-  -- is a block open?
-  pub isOpen : Bool
-  -- where it has performed a LOAD or a STORE
-  pub touched : List ℕ
-  -- the words that it has taken from shared memory, by their addresses
-  pub taken : List ℕ
-  -- has another core written one of them since?
-  pub hit : Bool
-
--- no block is open
-abbrev pub closed : Book
-closed = record { isOpen = false; touched = []; taken = []; hit = false }
-
--- a block has just opened
-abbrev pub opened : Book
-opened = record { isOpen = true; touched = []; taken = []; hit = false }
-
--- does a number stand in a list?
-abbrev pub has : ℕ → List ℕ → Bool
-has a [] = false
-has a (x ∷ xs) = eqb x a || has a xs
-
--- what the instructions of a block touch
-pub data Touch : Type 0 where
-  Reads : ℕ → Touch
-  Writes : ℕ → Touch
-  Neither : Touch
-
--- LOAD and STORE touch a word
-abbrev pub touch : Ask → Touch
-touch (Moves p) = Neither
-touch (Loads a k) = Reads a
-touch (Stores a w) = Writes a
-touch (Sends e) = Neither
-touch Begins = Neither
-touch Ends = Neither
-touch Halts = Neither
-touch Retries = Neither
-touch Earlies = Neither
-
--- a block performs an instruction: a LOAD takes the word, if the block has performed no LOAD or STORE there before
-abbrev pub touches : Touch → Book → Book
-touches (Reads a) b =
-    cond (has a (b .touched)) b (record { isOpen = b .isOpen; touched = a ∷ b .touched; taken = a ∷ b .taken; hit = b .hit })
-touches (Writes a) b = record { isOpen = b .isOpen; touched = a ∷ b .touched; taken = b .taken; hit = b .hit }
-touches Neither b = b
-
--- a core's own move: "running" opens a block, or performs an instruction of the open one; four answers close it
-abbrev pub ownMove : Touch → Answer → Book → Book
-ownMove t Running b = cond (b .isOpen) (touches t b) opened
-ownMove t Waiting b = b
-ownMove t Done b = closed
-ownMove t Committing b = b
-ownMove t Early b = b
-ownMove t Full b = b
-ownMove t SaysStopped b = b
-ownMove t RolledBack b = closed
-ownMove t Retried b = closed
-ownMove t (Faulted f pc) b = closed
-
--- another core's move: its write hits a block that has taken the word
-abbrev pub otherMove : Effect → Book → Book
-otherMove Nothing b = b
-otherMove (Wrote a w) b = record { isOpen = b .isOpen; touched = b .touched; taken = b .taken; hit = b .hit || has a (b .taken) }
-otherMove (Sent x) b = b
+use Rattle.model.specs.Blocks.{Move}
 
 -- what the observer has noted
 pub record Journal : Type 0 where
@@ -97,8 +22,8 @@ pub record Journal : Type 0 where
   pub taken : List SentEntry
   -- the record's entries when the latest hold began
   pub held : List Entry
-  -- of each core's block
-  pub books : ℕ → Book
+  -- the moves of cores, latest first
+  pub moves : List Move
 
 -- the machine that starts as an engine stands
 abbrev pub startOf : Engine → Machine
@@ -106,7 +31,7 @@ startOf e = record { memory = e .memory; sent = []; cores = map settle (e .cores
 
 -- a new engine counts as just cleared
 abbrev pub newJournal : Engine → Journal
-newJournal e = record { start = startOf e; waiting = e .outlet .waiting; taken = []; held = []; books = λ k. closed }
+newJournal e = record { start = startOf e; waiting = e .outlet .waiting; taken = []; held = []; moves = [] }
 
 -- what is noted of an event that an engine shows
 abbrev pub note : Engine → Event → Journal → Journal
@@ -115,11 +40,11 @@ note e (Moved i ask answer x) j = record {
   waiting = j .waiting;
   taken = j .taken;
   held = j .held;
-  books = λ k. cond (eqb k i) (ownMove (touch ask) answer (j .books k)) (otherMove x (j .books k));
+  moves = record { core = i; ask = ask; answer = answer; effect = x } ∷ j .moves;
 }
-note e Clears j = record { start = startOf e; waiting = e .outlet .waiting; taken = []; held = j .held; books = j .books }
-note e Holds j = record { start = j .start; waiting = j .waiting; taken = j .taken; held = e .entries; books = j .books }
-note e (Takes x) j = record { start = j .start; waiting = j .waiting; taken = j .taken ++ x ∷ []; held = j .held; books = j .books }
+note e Clears j = record { start = startOf e; waiting = e .outlet .waiting; taken = []; held = j .held; moves = j .moves }
+note e Holds j = record { start = j .start; waiting = j .waiting; taken = j .taken; held = e .entries; moves = j .moves }
+note e (Takes x) j = record { start = j .start; waiting = j .waiting; taken = j .taken ++ x ∷ []; held = j .held; moves = j .moves }
 note e Silent j = j
 
 -- a run: the engine as it is, and what was noted

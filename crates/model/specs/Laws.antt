@@ -8,7 +8,6 @@
 use Prim.Native.Nat.{ℕ, _<_}
 use mathlib.Core.Path.{_≡_}
 use mathlib.Core.Logic.{_↔_}
-use mathlib.Core.Bool.{true}
 use mathlib.Core.List.{List, _++_, map}
 use mathlib.Core.Option.{some}
 use lib.ListN.{length, getD, take}
@@ -26,6 +25,7 @@ use Rattle.model.specs.Lines.{Effect}
 use Rattle.model.specs.Cores.{settle}
 use Rattle.model.specs.Engine.{Settings, Outlet, make}
 use Rattle.model.specs.Runs.{Moved, event, played, memorySeen, sentIn, takenIn, reply, plays}
+use Rattle.model.specs.Blocks.{OpenAndHit}
 use Rattle.model.specs.Journal.{Run, history}
 
 -- no core has the token; the host may
@@ -66,7 +66,7 @@ abbrev pub RollBackAt : Run → Type 0
 RollBackAt r =
     (c : Call) (i : ℕ) (ask : Ask) (answer : Answer) (x : Effect) →
     event (r .engine) c ≡ Moved i ask answer x →
-    (answer ≡ RolledBack) ↔ ((r .journal .books i .isOpen ≡ true) × (r .journal .books i .hit ≡ true))
+    (answer ≡ RolledBack) ↔ OpenAndHit i (r .journal .moves)
 
 -- a word of the machine that has run the entries present when the hold began
 pub record HeldWord (r : Run) (a w : ℕ) : Type 0 where

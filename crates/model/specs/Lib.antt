@@ -6,5 +6,6 @@ pub mod Cores
 pub mod Engine
 pub mod Calls
 pub mod Runs
+pub mod Blocks
 pub mod Journal
 pub mod Laws

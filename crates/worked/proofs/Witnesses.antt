@@ -7,7 +7,7 @@ use Rattle.worked.specs.Witnesses.{Witnesses}
 pub witnesses : Witnesses
 unfolding asks outerAt innerAt
 witnesses = record {
-  rollsBack = record { before = refl; opened = refl; hit = refl; answer = refl; after = refl; machine = refl };
+  rollsBack = record { before = refl; opened = refl; answer = refl; after = refl; machine = refl };
   commitsEarly = record { answer = refl; record-is = refl; machine = refl };
   faultsPlain = record { answer = refl; record-is = refl; machine = refl };
   faultsDiscarded = record { answer = refl; record-is = refl; machine = refl };

@@ -4,9 +4,9 @@
 -- Assumes nothing.
 use Prim.Native.Nat.{ℕ}
 use mathlib.Core.Path.{_≡_}
-use mathlib.Core.Bool.{true, false}
+use mathlib.Core.Bool.{Bool, true, false}
 use mathlib.Core.List.{List, [], _∷_, _++_}
-use mathlib.Core.Option.{Option, some}
+use mathlib.Core.Option.{Option, none, some}
 use lib.ListN.{take}
 use Rattle.std.specs.declared.result.Result.the-variants.{Ok}
 use Rattle.formats.specs.declared.register.Register.the-variants.{R0, R1}
@@ -14,13 +14,14 @@ use Rattle.formats.specs.declared.entry.SentEntry.{SentEntry}
 use Rattle.formats.specs.declared.entry.Mark.the-variants.{Completed, Discarded, Kept}
 use Rattle.formats.specs.declared.instruction.Instruction.the-variants.{Halt, Set, Load, Store, Begin, End, Early as EarlyToken, Out}
 use Rattle.answers.specs.declared.answer.Fault.the-variants.{AddressOutside, HaltInBlock}
-use Rattle.answers.specs.declared.answer.Answer.the-variants.{Running, Done, Early, Full, RolledBack, Faulted}
+use Rattle.answers.specs.declared.answer.Answer.the-variants.{Running, Waiting, Done, Early, Full, RolledBack, Faulted}
 use Rattle.model.specs.declared.call.Call.{Call}
 use Rattle.model.specs.declared.call.Call.the-variants.{Step, Hold, Read, GiveBack, Take}
 use Rattle.model.specs.declared.call.Reply.the-variants.{Stepped, Word, Taken}
 use Rattle.model.specs.OneAtATime.{Settled, Machine, runs}
 use Rattle.model.specs.Engine.{Engine}
 use Rattle.model.specs.Runs.{replies}
+use Rattle.model.specs.Blocks.{Move, block}
 use Rattle.model.specs.Journal.{Run, mores, fresh}
 use Rattle.worked.specs.Examples.{n0, n1, engineOf, entryOf, steps, answers, counterProgram, counterRun, pairProgram}
 
@@ -48,13 +49,17 @@ machineOf m s cs = record { memory = m; sent = s; cores = cs }
 abbrev pub counters : Engine
 counters = engineOf counterProgram (0 ∷ 0 ∷ []) 4 (0 ∷ []) 0
 
--- core 0 writes the word that core 1's block has taken: not hit before, hit after, and rolled back
+-- is a block open?
+abbrev pub isOpen : Option (List Move) → Bool
+isOpen none = false
+isOpen (some vs) = true
+
+-- core 1 waits with its block open; core 0 writes the word that this block has taken; core 1 rolls back, and its block is closed
 pub record RollsBack : Type 0 where
-  pub before : runOf counters (take 12 counterRun) .journal .books 1 .hit ≡ false
-  pub opened : runOf counters (take 13 counterRun) .journal .books 1 .isOpen ≡ true
-  pub hit : runOf counters (take 13 counterRun) .journal .books 1 .hit ≡ true
+  pub before : replies (runOf counters (take 12 counterRun) .engine) (Step 1 ∷ []) ≡ answers (Waiting ∷ [])
+  pub opened : isOpen (block 1 (runOf counters (take 13 counterRun) .journal .moves)) ≡ true
   pub answer : replies (runOf counters (take 13 counterRun) .engine) (Step 1 ∷ []) ≡ answers (RolledBack ∷ [])
-  pub after : runOf counters counterRun .journal .books 1 .isOpen ≡ false
+  pub after : isOpen (block 1 (runOf counters counterRun .journal .moves)) ≡ false
   pub machine : explained (runOf counters counterRun) ≡ some (machineOf (1 ∷ []) [] (coreOf 6 0 1 1 ∷ coreOf 0 0 0 0 ∷ []))
 
 -- a block that outgrows its one line
