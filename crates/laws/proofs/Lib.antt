@@ -9,6 +9,8 @@ pub mod Decoding
 pub mod Transaction
 pub mod Holder
 pub mod Calls
+pub mod Tags
+pub mod Apart
 pub mod Blocks
 pub mod Serial
 pub mod RollBack

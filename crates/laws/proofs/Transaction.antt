@@ -22,7 +22,7 @@ use Rattle.model.specs.Cores.{Core, resting, turnedTo, performed, rolledBack, s
 use Rattle.model.specs.Engine.{Engine, coreAt, viewOf}
 use Rattle.model.specs.Journal.{Journal}
 use Rattle.model.specs.Blocks.{touch}
-use Rattle.laws.proofs.Books.{has, touches, opened, books}
+use Rattle.laws.proofs.Books.{touches, opened, books}
 use Rattle.laws.proofs.Lines.{overlay, length-overlay, overlay-append, overlay-clean, getD-overlay, getD-overlay-other, overlay-storeAt}
 use Rattle.laws.proofs.Lines.{Agree, holds-append, tagged-append, holds-storeAt, tagged-storeAt, fit-append, fit-storeAt, fit-agree}
 use Rattle.laws.proofs.Invariant.{scene, Follows, Good, Booked, Tracks, Holder, Inv}

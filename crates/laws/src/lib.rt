@@ -1,6 +1,6 @@
 // The three laws of the machine, each a theorem over every settings, memory, outlet and list of calls.
 // The functions do nothing: what they promise is the theorem.
-ghost use Rattle.model.specs.Laws.{Serial, RollBack, HeldRead, Observed, Played, Laws};
+ghost use Rattle.model.specs.Laws.{Serial, RollBack, HeldRead, Observed, Played, TagsServed, Laws};
 
 // Whenever no core has the token, the record, run one turn at a time from the last clearing, explains memory, cores and sent words.
 pub fn serial_holds() -> u8
@@ -33,6 +33,13 @@ pub fn observation_holds() -> u8
 // The engine that the laws speak of is the new engine after its calls.
 pub fn played_holds() -> u8
     ensures { λ _. ⌜ Played ⌝ }
+{
+    0
+}
+
+// The lines of a core are at different addresses, and its tags can always be copied, each once.
+pub fn tags_can_be_served() -> u8
+    ensures { λ _. ⌜ TagsServed ⌝ }
 {
     0
 }

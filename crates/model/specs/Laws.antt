@@ -3,6 +3,7 @@
 --   ObservedAt                          that what is observed is all that happens to memory and outlet
 --   Serial, RollBack, HeldRead          that a law holds of every run
 --   Played                              that a run's engine is the new engine after its calls
+--   TagsServed                          that tags can always be copied as they are to be
 --   Lawful, Laws                        all three, at every point of one list of calls, and of every list
 -- Assumes nothing.
 use Prim.Native.Nat.{ℕ, _<_}
@@ -11,9 +12,11 @@ use mathlib.Core.Logic.{_↔_}
 use mathlib.Core.List.{List, _++_, map}
 use mathlib.Core.Option.{some}
 use lib.ListN.{length, getD, take}
+use Rattle.std.specs.declared.result.Result.{Result}
 use Rattle.std.specs.declared.result.Result.the-variants.{Ok}
 use Rattle.answers.specs.declared.answer.Answer.{Answer}
 use Rattle.answers.specs.declared.answer.Answer.the-variants.{RolledBack}
+use Rattle.model.specs.declared.refusal.TagsRefusal.{TagsRefusal}
 use Rattle.model.specs.declared.state.Token.{Token}
 use Rattle.model.specs.declared.state.Token.the-variants.{Free, Core as CoreHas, Host}
 use Rattle.model.specs.declared.call.Call.{Call}
@@ -21,9 +24,10 @@ use Rattle.model.specs.declared.call.Call.the-variants.{Read}
 use Rattle.model.specs.declared.call.Reply.the-variants.{Word}
 use Rattle.model.specs.Instructions.{Ask}
 use Rattle.model.specs.OneAtATime.{Machine, runs}
-use Rattle.model.specs.Lines.{Effect}
+use Rattle.model.specs.Lines.{Effect, Distinct}
 use Rattle.model.specs.Cores.{settle}
-use Rattle.model.specs.Engine.{Settings, Outlet, make}
+use Rattle.model.specs.Engine.{Settings, Outlet, make, coreAt}
+use Rattle.model.specs.Calls.{Tags}
 use Rattle.model.specs.Runs.{Moved, event, played, memorySeen, sentIn, takenIn, reply, plays}
 use Rattle.model.specs.Blocks.{OpenAndHit}
 use Rattle.model.specs.Journal.{Run, history}
@@ -98,6 +102,13 @@ Observed = (s : Settings) (m : List ℕ) (o : Outlet) (cs : List Call) → Obser
 -- the engine of a run is the new engine after its calls
 abbrev pub Played : Type 0
 Played = (s : Settings) (m : List ℕ) (o : Outlet) (cs : List Call) → history s m o cs .engine ≡ plays (make s m o) cs
+
+-- at every point of a run a core's lines are at different addresses, and the tags of every core can be copied to every list
+abbrev pub TagsServed : Type 0
+TagsServed =
+    (s : Settings) (m : List ℕ) (o : Outlet) (cs : List Call) (i : ℕ) (before : List ℕ) →
+    Distinct (coreAt (history s m o cs .engine) i .lines)
+    × ((after : List ℕ) × (answer : Result ℕ TagsRefusal) × Tags (history s m o cs .engine) i before after answer)
 
 -- all three laws of one run, in what was truly observed
 pub record LawsAt (r : Run) : Type 0 where
