@@ -14,7 +14,7 @@ use Rattle.std.specs.declared.result.Result.the-variants.{Ok, Err}
 use Rattle.std.proofs.shelf.Lists.{length-map, map-append, getD-default}
 use Rattle.formats.specs.declared.entry.RecordEntry.{RecordEntry}
 use Rattle.model.specs.declared.refusal.RecordRefusal.the-variants.{NotFilled}
-use Rattle.model.specs.Engine.{entryIn}
+use Rattle.model.specs.Calls.{entryIn}
 use Rattle.cores.specs.Units.{turnOf}
 use Rattle.bank.specs.Logs.{recorded}
 

@@ -18,7 +18,7 @@ use Rattle.model.specs.declared.place.Line.{Line}
 use Rattle.model.specs.declared.refusal.TagsRefusal.{TagsRefusal}
 use Rattle.model.specs.declared.refusal.TagsRefusal.the-variants.{TooShort}
 use Rattle.model.specs.Lines.{holds, tagged}
-use Rattle.model.specs.Engine.{tagCount, times, TagsCopied}
+use Rattle.model.specs.Calls.{tagCount, times, TagsCopied}
 use Rattle.cores.specs.Distinct.{distinct}
 use Rattle.cores.specs.Buffers.{noLine, lineAt, tagsOf}
 use Rattle.cores.specs.Tags.{LineTags}

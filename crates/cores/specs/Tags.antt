@@ -9,7 +9,7 @@ use Rattle.std.specs.declared.result.Result.{Result}
 use Rattle.model.specs.declared.place.Line.{Line}
 use Rattle.model.specs.declared.refusal.TagsRefusal.{TagsRefusal}
 use Rattle.model.specs.declared.refusal.TagsRefusal.the-variants.{TooShort}
-use Rattle.model.specs.Engine.{tagCount, TagsAnswered, TagsRefused}
+use Rattle.model.specs.Calls.{tagCount, TagsAnswered, TagsRefused}
 
 -- the list takes them all, or nothing is copied
 abbrev pub LineTags : List Line → List ℕ → List ℕ → Result ℕ TagsRefusal → Type 0

@@ -3,8 +3,8 @@
 use Prim.Native.Nat.{ℕ, zero, suc, _+_, _<_}
 use native.Mathlib.Omega.{arith}
 use mathlib.Core.Path.{_≡_, refl, sym, _∙_, ap, subst}
-use mathlib.Core.Bool.{Bool, true, false, cond}
-use mathlib.Core.List.{List, [], _∷_, _++_, map}
+use mathlib.Core.Bool.{cond}
+use mathlib.Core.List.{List, [], _∷_, _++_}
 use lib.Dec.{ltb, leb}
 use lib.ListN.{length, getD}
 use Rattle.std.proofs.shelf.Lists.{append-assoc, append-nil}
@@ -23,11 +23,13 @@ use Rattle.model.specs.declared.refusal.StepRefusal.{StepRefusal}
 use Rattle.model.specs.declared.refusal.StepRefusal.the-variants.{NoSuchCore, RecordFull}
 use Rattle.model.specs.declared.call.Call.{Call}
 use Rattle.model.specs.declared.call.Call.the-variants.{Step, Turn, Clear, Hold, Read, GiveBack, Take}
-use Rattle.model.specs.Instructions.{Ask, asks, outerAt, innerAt}
-use Rattle.model.specs.OneAtATime.{Machine}
-use Rattle.model.specs.Cores.{Core, byState}
-use Rattle.model.specs.Engine.{Engine, Outlet, Settings, make, newCores, newCore, check, blank, coreAt, viewOf, outcomeOf, After, stays, stepped, step, wanted, advanced, clearIf, emptied, holdIf, giveBackIf, withToken, takeFrom, withOutlet}
-use Rattle.model.specs.Runs.{Journal, Run, closed, newJournal, startOf, note, event, movedEvent, clearEvent, holdEvent, takeEvent, played, more, mores, fresh, history}
+use Rattle.model.specs.Instructions.{asks, outerAt, innerAt}
+use Rattle.model.specs.Cores.{byState}
+use Rattle.model.specs.Engine.{Engine, Outlet, Settings, make, newCores, check, blank, coreAt, viewOf}
+use Rattle.model.specs.Calls.{outcomeOf, After, stays, stepped, step, wanted, advanced, clearIf, emptied, holdIf, giveBackIf, takeFrom}
+use Rattle.model.specs.Runs.{event, movedEvent, clearEvent, holdEvent, takeEvent, played}
+use Rattle.model.specs.Journal.{Journal, Run, newJournal, startOf, note, more, mores, fresh, history}
+use Rattle.laws.proofs.Books.{closed}
 use Rattle.laws.proofs.Invariant.{Good, Booked, Shared, SentIs, HeldIs, Inv}
 use Rattle.laws.proofs.Keeps.{InvAfter, other-still, free-core}
 use Rattle.laws.proofs.Plain.{stopped, aborted, bypass}

@@ -2,7 +2,6 @@
 -- Assumes nothing.
 use Prim.Native.Nat.{ℕ, zero, suc, _<_}
 use mathlib.Core.Path.{_≡_, refl, subst}
-use mathlib.Core.Bool.{cond}
 use mathlib.Core.List.{List}
 use lib.Dec.{ltb}
 use Rattle.std.proofs.shelf.Tests.{cond-both, ltb-true}
@@ -11,7 +10,7 @@ use Rattle.formats.specs.declared.instruction.Instruction.{Instruction}
 use Rattle.model.specs.declared.place.Place.{Place}
 use Rattle.model.specs.Instructions.{Ask, Moves, Loads, Stores, Sends, Begins, Ends, Halts, Retries, Earlies, asks, past, closing, inner, innerAt}
 use Rattle.model.specs.Instructions.{Inner, InnerFaults, InnerMoves, InnerLoads, InnerStores, InnerSends, Closes, Restarts, TakesToken}
-use Rattle.model.specs.Runs.{Touch, Reads, Writes, Neither, touch}
+use Rattle.model.specs.Blocks.{Touch, Reads, Writes, Neither, touch}
 
 -- what the decoder's answer says of the word that is touched
 abbrev pub Touches : Inner → ℕ → Touch → Type 0

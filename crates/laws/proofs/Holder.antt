@@ -2,13 +2,12 @@
 -- Assumes nothing.
 use Prim.Native.Nat.{ℕ, suc, _<_}
 use mathlib.Core.Path.{_≡_, refl, sym, _∙_, ap, subst}
-use mathlib.Core.Logic.{_⊎_, inl, inr}
-use mathlib.Core.Bool.{Bool, true, false, cond}
+use mathlib.Core.Logic.{inl, inr}
+use mathlib.Core.Bool.{true, false}
 use mathlib.Core.List.{List, [], _∷_, _++_}
 use mathlib.Core.Option.{some}
-use lib.Dec.{ltb, eqb}
-use lib.ListN.{length, getD, set}
-use Rattle.std.proofs.shelf.Lists.{length-set}
+use lib.Dec.{ltb}
+use lib.ListN.{length, getD}
 use Rattle.std.proofs.shelf.Tests.{cases-bool, cond-both, cond-true, eq-eqb}
 use Rattle.answers.specs.declared.answer.Fault.{Fault}
 use Rattle.answers.specs.declared.answer.Fault.the-variants.{RetryAfterEarly}
@@ -17,9 +16,7 @@ use Rattle.answers.specs.declared.answer.Answer.the-variants.{Running, Done, Co
 use Rattle.formats.specs.declared.entry.Mark.{Mark}
 use Rattle.formats.specs.declared.entry.Mark.the-variants.{Completed, Kept}
 use Rattle.formats.specs.declared.entry.SentEntry.{SentEntry}
-use Rattle.model.specs.declared.state.State.{State}
 use Rattle.model.specs.declared.state.State.the-variants.{Bypass, Commit, EarlyFlush, EarlyCommit, Stopped}
-use Rattle.model.specs.declared.state.Token.{Token}
 use Rattle.model.specs.declared.state.Token.the-variants.{Free, Core as CoreHas}
 use Rattle.model.specs.declared.place.Place.{Place}
 use Rattle.model.specs.Instructions.{Ask, onward, past, innerAt}
@@ -29,11 +26,13 @@ use Rattle.model.specs.declared.place.Line.{Line}
 use Rattle.model.specs.declared.effect.Effect.{Effect}
 use Rattle.model.specs.declared.effect.Effect.the-variants.{Nothing, Wrote, Sent}
 use Rattle.model.specs.Lines.{anyDirty, wrote, left}
-use Rattle.model.specs.Cores.{Core, resting, turnedTo, performed, settle, settledPlace, settledStopped, freed, becomes, acts, finishes, faulted, ends, inCommit, inEarlyFlush, inEarlyCommit}
+use Rattle.model.specs.Cores.{Core, resting, turnedTo, performed, settledPlace, settledStopped, freed, becomes, acts, finishes, faulted, ends, inCommit, inEarlyFlush, inEarlyCommit}
 use Rattle.model.specs.Engine.{Engine, Outlet, coreAt, viewOf, change, memoryAfter, outletAfter}
-use Rattle.model.specs.Runs.{Journal, Book, Touch, Reads, Writes, Neither, touch, touches, ownMove, opened, has}
+use Rattle.model.specs.Journal.{Journal}
+use Rattle.model.specs.Blocks.{Touch, Reads, Writes, Neither, touch}
+use Rattle.laws.proofs.Books.{Book, touches, ownBook, opened, has, books}
 use Rattle.laws.proofs.Lines.{overlay, length-overlay, overlay-clean, overlay-left}
-use Rattle.laws.proofs.Invariant.{scene, Good, Booked, Holder, Holding, Shared, SentIs, Inv}
+use Rattle.laws.proofs.Invariant.{scene, Good, Booked, Holder, Shared, SentIs, Inv}
 use Rattle.laws.proofs.Keeps.{InvAfter, good-in, booked-in, own-quiet, length-after}
 use Rattle.laws.proofs.Leaves.{UnitIs, finish-free, go-on}
 use Rattle.laws.proofs.Plain.{machineWith, one-more-sent}
@@ -57,7 +56,7 @@ touches-open (Reads a) b p q =
 touches-open (Writes a) b p q = (p, q)
 touches-open Neither b p q = (p, q)
 
-running-open : (t : Touch) (b : Book) → b .isOpen ≡ true → b .hit ≡ false → (ownMove t Running b .isOpen ≡ true) × (ownMove t Running b .hit ≡ false)
+running-open : (t : Touch) (b : Book) → b .isOpen ≡ true → b .hit ≡ false → (ownBook t Running b .isOpen ≡ true) × (ownBook t Running b .hit ≡ false)
 running-open t b p q =
     subst (λ k. (k .isOpen ≡ true) × (k .hit ≡ false)) (sym (cond-true (b .isOpen) (touches t b) opened p)) (touches-open t b p q)
 
@@ -77,7 +76,7 @@ module _ (e : Engine) (j : Journal) (h : Inv e j) (i : ℕ) (b : i < length (e .
       (c′ : Core) (x : Effect) (mark : Mark) (n : ℕ) (answer : Answer) (own : e .token ≡ CoreHas i) →
       (u : UnitIs e j h i mark n c′) → u .machine .memory ≡ memoryAfter x (e .memory) →
       SentIs (change e i (finishes (viewOf e i) c′ x mark n answer)) j (u .machine .sent) →
-      Good (c′ .state) (e .program) (memoryAfter x (e .memory)) (freed (e .token) i) i c′ → Booked (c′ .state) (ownMove (touch ask) answer (j .books i)) c′ →
+      Good (c′ .state) (e .program) (memoryAfter x (e .memory)) (freed (e .token) i) i c′ → Booked (c′ .state) (ownBook (touch ask) answer (books (j .moves) i)) c′ →
       InvAfter e j i ask (finishes (viewOf e i) c′ x mark n answer)
   finish-own c′ x mark n answer own u m s g k =
       finish-free e j h i b ask c′ x mark n answer (own-quiet x (e .token) (freed (e .token) i) i own) (freed-own own) u
@@ -112,7 +111,7 @@ module _ (e : Engine) (j : Journal) (h : Inv e j) (i : ℕ) (b : i < length (e .
   pub commit : c .state ≡ Commit → InvAfter e j i ask (inCommit (viewOf e i) c)
   commit st =
       let own : e .token ≡ CoreHas i = subst (λ s. Good s (e .program) (e .memory) (e .token) i c) st (h .good i) in
-      let book : (j .books i .isOpen ≡ true) × (j .books i .hit ≡ false) = subst (λ s. Booked s (j .books i) c) st (h .booked i) in
+      let book : (books (j .moves) i .isOpen ≡ true) × (books (j .moves) i .hit ≡ false) = subst (λ s. Booked s (books (j .moves) i) c) st (h .booked i) in
       let d : innerAt (e .program) (length (e .memory)) (c .place) (c .depth) (c .count) ≡ Closes = subst (λ s. Holder s (e .program) (e .memory) c) st (mine own .1 .state) in
       let m = memoryAfter (wrote (c .lines)) (e .memory) in
       cond-both (anyDirty (left (c .lines))) (acts (viewOf e i) (turnedTo c Commit (left (c .lines))) (wrote (c .lines)) Committing) (ends (viewOf e i) c (wrote (c .lines))) (InvAfter e j i ask)
@@ -126,7 +125,7 @@ module _ (e : Engine) (j : Journal) (h : Inv e j) (i : ℕ) (b : i < length (e .
   pub early-flush : c .state ≡ EarlyFlush → InvAfter e j i ask (inEarlyFlush (viewOf e i) c)
   early-flush st =
       let own : e .token ≡ CoreHas i = subst (λ s. Good s (e .program) (e .memory) (e .token) i c) st (h .good i) in
-      let book : (j .books i .isOpen ≡ true) × (j .books i .hit ≡ false) = subst (λ s. Booked s (j .books i) c) st (h .booked i) in
+      let book : (books (j .moves) i .isOpen ≡ true) × (books (j .moves) i .hit ≡ false) = subst (λ s. Booked s (books (j .moves) i) c) st (h .booked i) in
       cond-both (anyDirty (left (c .lines)))
       (acts (viewOf e i) (turnedTo c EarlyFlush (left (c .lines))) (wrote (c .lines)) Early) (acts (viewOf e i) (turnedTo c EarlyCommit []) (wrote (c .lines)) Early) (InvAfter e j i ask)
       (λ _. go-on e j h i b ask (turnedTo c EarlyFlush (left (c .lines))) (wrote (c .lines)) Early own (rw st refl) (mine own .0)
@@ -143,8 +142,8 @@ module _ (e : Engine) (j : Journal) (h : Inv e j) (i : ℕ) (b : i < length (e .
     own : e .token ≡ CoreHas i
     own = subst (λ s. Good s (e .program) (e .memory) (e .token) i c) st (h .good i)
 
-    book : (j .books i .isOpen ≡ true) × (j .books i .hit ≡ false)
-    book = subst (λ s. Booked s (j .books i) c) st (h .booked i)
+    book : (books (j .moves) i .isOpen ≡ true) × (books (j .moves) i .hit ≡ false)
+    book = subst (λ s. Booked s (books (j .moves) i) c) st (h .booked i)
 
     no-lines : c .lines ≡ []
     no-lines = subst (λ s. Holder s (e .program) (e .memory) c) st (mine own .1 .state)
@@ -166,7 +165,7 @@ module _ (e : Engine) (j : Journal) (h : Inv e j) (i : ℕ) (b : i < length (e .
         })
         v
         (good-in EarlyCommit (e .program) (memoryAfter x (e .memory)) (e .token) i (performed c p depth (c .lines)) st own)
-        (booked-in EarlyCommit (ownMove (touch ask) Running (j .books i)) (performed c p depth (c .lines)) st (running-open (touch ask) (j .books i) (book .0) (book .1)))
+        (booked-in EarlyCommit (ownBook (touch ask) Running (books (j .moves) i)) (performed c p depth (c .lines)) st (running-open (touch ask) (books (j .moves) i) (book .0) (book .1)))
 
     -- the block's run with one more instruction, with no lines left
     bare-more :

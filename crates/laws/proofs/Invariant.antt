@@ -2,8 +2,7 @@
 -- Assumes nothing.
 use Prim.Native.Nat.{ℕ}
 use mathlib.Core.Path.{_≡_}
-use mathlib.Core.Logic.{_≢_}
-use mathlib.Core.Bool.{Bool, true, false}
+use mathlib.Core.Bool.{true, false}
 use mathlib.Core.List.{List, [], _++_, map}
 use mathlib.Core.Option.{some}
 use lib.ListN.{length}
@@ -19,7 +18,8 @@ use Rattle.model.specs.OneAtATime.{Scene, Inside, run, Machine, runs}
 use Rattle.model.specs.Lines.{holds, tagged}
 use Rattle.model.specs.Cores.{Core, settle}
 use Rattle.model.specs.Engine.{Engine, coreAt}
-use Rattle.model.specs.Runs.{Book, Journal, has}
+use Rattle.model.specs.Journal.{Journal}
+use Rattle.laws.proofs.Books.{Book, has, books}
 use Rattle.laws.proofs.Lines.{overlay, Fit, Agree}
 
 -- a core alone at a place, with a memory and what was sent
@@ -101,6 +101,6 @@ pub record Inv (e : Engine) (j : Journal) : Type 0 where
   pub settled : now .cores ≡ map settle (e .cores)
   pub size : length (now .memory) ≡ length (e .memory)
   pub good : (k : ℕ) → Good (coreAt e k .state) (e .program) (e .memory) (e .token) k (coreAt e k)
-  pub booked : (k : ℕ) → Booked (coreAt e k .state) (j .books k) (coreAt e k)
+  pub booked : (k : ℕ) → Booked (coreAt e k .state) (books (j .moves) k) (coreAt e k)
   pub shared : Shared (e .token) e j now
   pub held : HeldIs (e .token) e j

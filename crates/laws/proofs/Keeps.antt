@@ -3,14 +3,13 @@
 use Prim.Native.Nat.{ℕ, _<_}
 use native.Mathlib.Omega.{arith}
 use mathlib.Core.Path.{_≡_, refl, sym, _∙_, ap, subst}
-use mathlib.Core.Logic.{_⊎_, inl, inr, _≢_}
-use mathlib.Core.Bool.{Bool, true, false, cond, _||_}
+use mathlib.Core.Logic.{inl, inr, _≢_}
+use mathlib.Core.Bool.{true, false}
 use mathlib.Core.List.{List, [], _∷_, _++_, map}
-use mathlib.Core.Option.{Option, none, some}
-use lib.Dec.{eqb}
+use mathlib.Core.Option.{some}
 use lib.ListN.{length, getD, set, length-map, List·getD-map}
-use Rattle.std.proofs.shelf.Lists.{length-set, getD-set-same, getD-set-other, set-getD, map-set, append-nil}
-use Rattle.std.proofs.shelf.Tests.{cases-bool, cases-eq, eq-eqb, ne-eqb, eqb-true, eqb-false, or-from, or-left, or-right, false≢true, true≢false}
+use Rattle.std.proofs.shelf.Lists.{length-set, getD-set-same, getD-set-other, map-set}
+use Rattle.std.proofs.shelf.Tests.{cases-bool, cases-eq, eq-eqb, ne-eqb, or-from, or-left, or-right, false≢true}
 use Rattle.formats.specs.declared.entry.SentEntry.{SentEntry}
 use Rattle.formats.specs.declared.instruction.Instruction.{Instruction}
 use Rattle.model.specs.declared.state.State.{State}
@@ -18,16 +17,18 @@ use Rattle.model.specs.declared.state.State.the-variants.{Bypass, Transaction, 
 use Rattle.model.specs.declared.state.Token.{Token}
 use Rattle.model.specs.declared.state.Token.the-variants.{Free, Core as CoreHas, Host}
 use Rattle.model.specs.Instructions.{Ask}
-use Rattle.model.specs.OneAtATime.{Machine, Turn, runs, turn, andThen, Settled, noCore}
-use Rattle.model.specs.declared.place.Line.{Line}
+use Rattle.model.specs.OneAtATime.{Machine, runs}
 use Rattle.model.specs.declared.effect.Effect.{Effect}
 use Rattle.model.specs.declared.effect.Effect.the-variants.{Nothing, Wrote, Sent}
 use Rattle.model.specs.Lines.{tagged}
-use Rattle.model.specs.Cores.{Core, turnedTo, settle, Outcome}
-use Rattle.model.specs.Engine.{Engine, coreAt, blank, change, struck, struckAt, memoryAfter, outletAfter}
-use Rattle.model.specs.Runs.{Book, Journal, Moved, note, touch, ownMove, otherMove, has}
-use Rattle.laws.proofs.Lines.{overlay, Fit, Agree, fit-set}
-use Rattle.laws.proofs.Invariant.{scene, Follows, Good, Booked, Tracks, Holding, Holder, Shared, SentIs, HeldIs, Inv}
+use Rattle.model.specs.Cores.{Core, settle, Outcome}
+use Rattle.model.specs.Engine.{Engine, coreAt, blank, change, struck, struckAt, memoryAfter}
+use Rattle.model.specs.Runs.{Moved}
+use Rattle.model.specs.Journal.{Journal, note}
+use Rattle.model.specs.Blocks.{touch}
+use Rattle.laws.proofs.Books.{Book, ownBook, otherBook, has, books}
+use Rattle.laws.proofs.Lines.{fit-set}
+use Rattle.laws.proofs.Invariant.{Follows, Good, Booked, Holding, Holder, Shared, SentIs, HeldIs, Inv}
 
 -- a write where a block has no tag does not disturb it
 follows-write : (program : List Instruction) (m : List ℕ) (c : Core) (a w : ℕ) → Follows program m c → tagged (c .lines) a ≡ false → Follows program (set m a w) c
@@ -50,14 +51,14 @@ booked-in s b c e g = subst (λ x. Booked x b c) (sym e) g
 pub other-write :
     (s : State) (program : List Instruction) (m : List ℕ) (t t′ : Token) (k : ℕ) (c : Core) (b : Book) (a w : ℕ) →
     c .state ≡ s → (t ≡ CoreHas k → ⊥) → Good s program m t k c → Booked s b c →
-    Good (struckAt s a c .state) program (set m a w) t′ k (struckAt s a c) × Booked (struckAt s a c .state) (otherMove (Wrote a w) b) (struckAt s a c)
+    Good (struckAt s a c .state) program (set m a w) t′ k (struckAt s a c) × Booked (struckAt s a c .state) (otherBook (Wrote a w) b) (struckAt s a c)
 other-write Bypass program m t t′ k c b a w e apart g p = rw e (tt, p)
 other-write Transaction program m t t′ k c b a w e apart g p =
     elim (cases-bool (tagged (c .lines) a)) [
       | inl q ↦ rw q (tt, (p .isOpen, or-right (b .hit) (has a (b .taken)) (p .taken a ∙ q)))
       | inr q ↦ rw q (
         good-in Transaction program (set m a w) t′ k c e (follows-write program m c a w g q),
-        booked-in Transaction (otherMove (Wrote a w) b) c e (record {
+        booked-in Transaction (otherBook (Wrote a w) b) c e (record {
           isOpen = p .isOpen;
           hit = or-from (b .hit) (has a (b .taken)) (p .hit) (p .taken a ∙ q);
           taken = p .taken;
@@ -93,7 +94,7 @@ Quiet (Sent x) t t′ i = (k : ℕ) → k ≢ i → t ≡ CoreHas k → ⊥
 other :
     (x : Effect) (program : List Instruction) (m : List ℕ) (t t′ : Token) (i k : ℕ) (c : Core) (b : Book) →
     k ≢ i → Quiet x t t′ i → Good (c .state) program m t k c → Booked (c .state) b c →
-    Good (struck x c .state) program (memoryAfter x m) t′ k (struck x c) × Booked (struck x c .state) (otherMove x b) (struck x c)
+    Good (struck x c .state) program (memoryAfter x m) t′ k (struck x c) × Booked (struck x c .state) (otherBook x b) (struck x c)
 other Nothing program m t t′ i k c b ne q g p = (other-still (c .state) program m t t′ k c (q k ne) g, p)
 other (Wrote a w) program m t t′ i k c b ne q g p = other-write (c .state) program m t t′ k c b a w refl (q k ne) g p
 other (Sent x) program m t t′ i k c b ne q g p = (other-still (c .state) program m t t′ k c (λ h. absurd (q k ne h)) g, p)
@@ -149,7 +150,7 @@ pub record Step (e : Engine) (j : Journal) (h : Inv e j) (i : ℕ) (ask : Ask) (
   pub settled : machine .cores ≡ set (h .now .cores) i (settle (o .core))
   pub size : length (machine .memory) ≡ length (e .memory)
   pub good : Good (o .core .state) (e .program) (memoryAfter (o .effect) (e .memory)) (o .token) i (o .core)
-  pub booked : Booked (o .core .state) (ownMove (touch ask) (o .answer) (j .books i)) (o .core)
+  pub booked : Booked (o .core .state) (ownBook (touch ask) (o .answer) (books (j .moves) i)) (o .core)
 
 -- the invariant after a step
 abbrev pub InvAfter : Engine → Journal → ℕ → Ask → Outcome → Type 0
@@ -181,8 +182,8 @@ kept e j h i ask o b p shared held = record {
     others :
         (k : ℕ) → k ≢ i →
         Good (struck (o .effect) (coreAt e k) .state) (e .program) (memoryAfter (o .effect) (e .memory)) (o .token) k (struck (o .effect) (coreAt e k))
-        × Booked (struck (o .effect) (coreAt e k) .state) (otherMove (o .effect) (j .books k)) (struck (o .effect) (coreAt e k))
-    others k q = other (o .effect) (e .program) (e .memory) (e .token) (o .token) i k (coreAt e k) (j .books k) q (p .quiet) (h .good k) (h .booked k)
+        × Booked (struck (o .effect) (coreAt e k) .state) (otherBook (o .effect) (books (j .moves) k)) (struck (o .effect) (coreAt e k))
+    others k q = other (o .effect) (e .program) (e .memory) (e .token) (o .token) i k (coreAt e k) (books (j .moves) k) q (p .quiet) (h .good k) (h .booked k)
 
 -- the token is in one place
 

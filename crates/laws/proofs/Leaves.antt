@@ -3,27 +3,28 @@
 use Prim.Native.Nat.{ℕ, _<_}
 use mathlib.Core.Path.{_≡_, refl, sym, _∙_, ap, subst}
 use mathlib.Core.Logic.{_≢_}
-use mathlib.Core.Bool.{Bool, true, false, cond}
-use mathlib.Core.List.{List, [], _∷_, _++_}
-use mathlib.Core.Option.{Option, none, some}
-use lib.Dec.{eqb}
-use lib.ListN.{length, getD, set}
+use mathlib.Core.Bool.{false}
+use mathlib.Core.List.{List}
+use mathlib.Core.Option.{some}
+use lib.ListN.{length, set}
 use Rattle.std.proofs.shelf.Lists.{set-getD, append-nil}
-use Rattle.std.proofs.shelf.Tests.{ne-eqb, eq-eqb}
+use Rattle.std.proofs.shelf.Tests.{ne-eqb}
 use Rattle.answers.specs.declared.answer.Answer.{Answer}
 use Rattle.formats.specs.declared.entry.Mark.{Mark}
 use Rattle.formats.specs.declared.entry.SentEntry.{SentEntry}
 use Rattle.model.specs.declared.state.Token.{Token}
 use Rattle.model.specs.declared.state.Token.the-variants.{Free, Core as CoreHas, Host}
 use Rattle.model.specs.Instructions.{Ask}
-use Rattle.model.specs.OneAtATime.{Machine, noCore, run, unit, runs}
+use Rattle.model.specs.OneAtATime.{Machine, noCore, run, unit}
 use Rattle.model.specs.declared.effect.Effect.{Effect}
 use Rattle.model.specs.declared.effect.Effect.the-variants.{Nothing}
 use Rattle.model.specs.Cores.{Core, settle, settledStopped, settledPlace, freed, becomes, acts, takesToken, finishes}
 use Rattle.model.specs.Engine.{Engine, coreAt, viewOf, change, memoryAfter}
-use Rattle.model.specs.Runs.{Journal, touch, ownMove}
+use Rattle.model.specs.Journal.{Journal}
+use Rattle.model.specs.Blocks.{touch}
+use Rattle.laws.proofs.Books.{ownBook, books}
 use Rattle.laws.proofs.Invariant.{scene, Good, Booked, Holder, Holding, Shared, SentIs, Inv}
-use Rattle.laws.proofs.Keeps.{Quiet, Step, InvAfter, Own, kept-own, kept-aside, free-quiet, own-quiet}
+use Rattle.laws.proofs.Keeps.{Quiet, InvAfter, Own, kept-own, kept-aside, free-quiet, own-quiet}
 use Rattle.laws.proofs.Turns.{core-settled, ran-more}
 
 -- a core that is not in one of the three states of the one that has the token
@@ -38,7 +39,7 @@ same-cores e j h i c′ s = sym (set-getD (h .now .cores) i noCore) ∙ ap (λ x
 pub only-core :
     (e : Engine) (j : Journal) (h : Inv e j) (i : ℕ) → i < length (e .cores) → (ask : Ask) (c′ : Core) (answer : Answer) →
     NoHolder e i → settle c′ ≡ settle (coreAt e i) →
-    Good (c′ .state) (e .program) (e .memory) (e .token) i c′ → Booked (c′ .state) (ownMove (touch ask) answer (j .books i)) c′ →
+    Good (c′ .state) (e .program) (e .memory) (e .token) i c′ → Booked (c′ .state) (ownBook (touch ask) answer (books (j .moves) i)) c′ →
     InvAfter e j i ask (becomes (viewOf e i) c′ answer)
 only-core e j h i b ask c′ answer not-i s g k =
     kept-aside e j h i ask (becomes (viewOf e i) c′ answer) b
@@ -74,7 +75,7 @@ pub record UnitIs (e : Engine) (j : Journal) (h : Inv e j) (i : ℕ) (mark : Mar
 pub finish-aside :
     (e : Engine) (j : Journal) (h : Inv e j) (i : ℕ) → i < length (e .cores) → (ask : Ask) (c′ : Core) (mark : Mark) (n : ℕ) (answer : Answer) →
     NoHolder e i → (u : UnitIs e j h i mark n c′) → u .machine .memory ≡ h .now .memory → u .machine .sent ≡ h .now .sent →
-    Good (c′ .state) (e .program) (e .memory) (freed (e .token) i) i c′ → Booked (c′ .state) (ownMove (touch ask) answer (j .books i)) c′ →
+    Good (c′ .state) (e .program) (e .memory) (freed (e .token) i) i c′ → Booked (c′ .state) (ownBook (touch ask) answer (books (j .moves) i)) c′ →
     InvAfter e j i ask (finishes (viewOf e i) c′ Nothing mark n answer)
 finish-aside e j h i b ask c′ mark n answer not-i u m s g k =
     let f = freed-aside (e .token) e j (h .now) i not-i (h .shared) in
@@ -96,7 +97,7 @@ pub finish-free :
     Quiet x (e .token) (freed (e .token) i) i → freed (e .token) i ≡ Free →
     (u : UnitIs e j h i mark n c′) → length (u .machine .memory) ≡ length (e .memory) → u .machine .memory ≡ memoryAfter x (e .memory) →
     SentIs (change e i (finishes (viewOf e i) c′ x mark n answer)) j (u .machine .sent) →
-    Good (c′ .state) (e .program) (memoryAfter x (e .memory)) (freed (e .token) i) i c′ → Booked (c′ .state) (ownMove (touch ask) answer (j .books i)) c′ →
+    Good (c′ .state) (e .program) (memoryAfter x (e .memory)) (freed (e .token) i) i c′ → Booked (c′ .state) (ownBook (touch ask) answer (books (j .moves) i)) c′ →
     InvAfter e j i ask (finishes (viewOf e i) c′ x mark n answer)
 finish-free e j h i b ask c′ x mark n answer q f u l m s g k =
     let o = finishes (viewOf e i) c′ x mark n answer in
@@ -117,7 +118,7 @@ pub take-token :
     (e : Engine) (j : Journal) (h : Inv e j) (i : ℕ) → i < length (e .cores) → (ask : Ask) (c′ : Core) (answer : Answer) →
     e .token ≡ Free → settle c′ ≡ settle (coreAt e i) →
     Holding (e .program) (h .now) (e .memory) (h .now .sent) c′ → SentIs e j (h .now .sent) →
-    Good (c′ .state) (e .program) (e .memory) (CoreHas i) i c′ → Booked (c′ .state) (ownMove (touch ask) answer (j .books i)) c′ →
+    Good (c′ .state) (e .program) (e .memory) (CoreHas i) i c′ → Booked (c′ .state) (ownBook (touch ask) answer (books (j .moves) i)) c′ →
     InvAfter e j i ask (takesToken (viewOf e i) c′ answer)
 take-token e j h i b ask c′ answer f s w v g k =
     kept-own e j h i ask (takesToken (viewOf e i) c′ answer) b
@@ -137,7 +138,7 @@ pub go-on :
     (e : Engine) (j : Journal) (h : Inv e j) (i : ℕ) → i < length (e .cores) → (ask : Ask) (c′ : Core) (x : Effect) (answer : Answer) →
     e .token ≡ CoreHas i → settle c′ ≡ settle (coreAt e i) → (s : List SentEntry) →
     Holding (e .program) (h .now) (memoryAfter x (e .memory)) s c′ → SentIs (change e i (acts (viewOf e i) c′ x answer)) j s →
-    Good (c′ .state) (e .program) (memoryAfter x (e .memory)) (e .token) i c′ → Booked (c′ .state) (ownMove (touch ask) answer (j .books i)) c′ →
+    Good (c′ .state) (e .program) (memoryAfter x (e .memory)) (e .token) i c′ → Booked (c′ .state) (ownBook (touch ask) answer (books (j .moves) i)) c′ →
     InvAfter e j i ask (acts (viewOf e i) c′ x answer)
 go-on e j h i b ask c′ x answer f s l w v g k =
     let o = acts (viewOf e i) c′ x answer in

@@ -1,4 +1,5 @@
 pub mod Lines
+pub mod Books
 pub mod Invariant
 pub mod Keeps
 pub mod Turns
@@ -8,4 +9,11 @@ pub mod Decoding
 pub mod Transaction
 pub mod Holder
 pub mod Calls
+pub mod Tags
+pub mod Apart
+pub mod Blocks
+pub mod Serial
+pub mod RollBack
+pub mod HeldRead
+pub mod Observed
 pub mod Laws

@@ -1,19 +1,18 @@
 -- Lines laid over a memory: what a block's buffer makes of the memory that it reads.
 -- Assumes nothing.
-use Prim.Native.Nat.{ℕ, zero, suc, _<_}
+use Prim.Native.Nat.{ℕ, _<_}
 use native.Mathlib.Omega.{arith}
-use mathlib.Core.Path.{_≡_, refl, sym, _∙_, ap}
-use mathlib.Core.Logic.{_⊎_, inl, inr}
+use mathlib.Core.Path.{_≡_, refl, sym, _∙_}
+use mathlib.Core.Logic.{inl, inr}
 use mathlib.Core.Bool.{Bool, true, false, cond, _||_, _&&_}
 use mathlib.Core.List.{List, [], _∷_, _++_}
 use lib.Dec.{eqb}
 use lib.ListN.{length, getD, set}
 use Rattle.std.proofs.shelf.Lists.{length-set, getD-set-same, getD-set-other, set-set, set-comm}
-use Rattle.std.proofs.shelf.Tests.{cases-bool, eqb-true, eqb-false, eq-eqb, or-parts, or-cases, or-from, or-left, or-right, ne-eqb, false≢true, true≢false}
+use Rattle.std.proofs.shelf.Tests.{cases-bool, eqb-true, eqb-false, eq-eqb, or-parts, or-from, or-right, ne-eqb, false≢true, true≢false}
 use Rattle.std.proofs.shelf.Ways.{tells}
 use Rattle.model.specs.declared.place.Line.{Line}
-use Rattle.model.specs.declared.effect.Effect.{Effect}
-use Rattle.model.specs.Lines.{holds, valueAt, tagged, loadedLine, storedLine, restored, storeAt, anyDirty, cleaned, wrote, left}
+use Rattle.model.specs.Lines.{holds, valueAt, tagged, storeAt, anyDirty, wrote, left}
 use Rattle.model.specs.Engine.{memoryAfter}
 
 or-swap : (x y z : Bool) → (x || (y || z)) ≡ (y || (x || z))

@@ -2,9 +2,8 @@
 -- Assumes nothing.
 use Prim.Native.Nat.{ℕ, _<_}
 use mathlib.Core.Path.{_≡_, refl, sym, _∙_, ap, subst}
-use mathlib.Core.Bool.{Bool, true, false, cond}
+use mathlib.Core.Bool.{false}
 use mathlib.Core.List.{List, [], _∷_, _++_}
-use mathlib.Core.Option.{some}
 use lib.Dec.{ltb}
 use lib.ListN.{length, getD, set}
 use Rattle.std.proofs.shelf.Lists.{append-assoc, length-set}
@@ -13,18 +12,20 @@ use Rattle.answers.specs.declared.answer.Answer.the-variants.{Running, Waiting,
 use Rattle.formats.specs.declared.entry.Mark.the-variants.{Completed, Discarded}
 use Rattle.formats.specs.declared.entry.SentEntry.{SentEntry}
 use Rattle.model.specs.declared.state.State.{State}
-use Rattle.model.specs.declared.state.State.the-variants.{Bypass, Transaction, Commit, Abort, EarlyFlush, EarlyCommit, Stopped}
+use Rattle.model.specs.declared.state.State.the-variants.{Bypass, Transaction, Abort, Stopped}
 use Rattle.model.specs.declared.state.Token.{Token}
 use Rattle.model.specs.declared.state.Token.the-variants.{Free, Core as CoreHas, Host}
 use Rattle.model.specs.declared.place.Place.{Place}
 use Rattle.model.specs.Instructions.{Ask, onward, past, Outer, OuterFaults, OuterMoves, OuterLoads, OuterStores, OuterSends, Opens, Stops, outerAt}
-use Rattle.model.specs.OneAtATime.{Machine, run}
+use Rattle.model.specs.OneAtATime.{Machine}
 use Rattle.model.specs.declared.effect.Effect.{Effect}
 use Rattle.model.specs.declared.effect.Effect.the-variants.{Nothing, Wrote, Sent}
-use Rattle.model.specs.Cores.{Core, Outcome, resting, rolledBack, settle, ifFree, freed, becomes, plain, plainSend, faulted, inBypass, byState}
+use Rattle.model.specs.Cores.{Core, Outcome, resting, rolledBack, settle, ifFree, freed, becomes, plain, plainSend, inBypass, byState}
 use Rattle.model.specs.Engine.{Engine, coreAt, viewOf, change, memoryAfter}
-use Rattle.model.specs.Runs.{Journal, touch, ownMove}
-use Rattle.laws.proofs.Invariant.{scene, Follows, Good, Booked, Tracks, Holder, Shared, SentIs, Inv}
+use Rattle.model.specs.Journal.{Journal}
+use Rattle.model.specs.Blocks.{touch}
+use Rattle.laws.proofs.Books.{ownBook, books}
+use Rattle.laws.proofs.Invariant.{Good, Booked, Holder, Shared, SentIs, Inv}
 use Rattle.laws.proofs.Keeps.{InvAfter, free-quiet}
 use Rattle.laws.proofs.Leaves.{NoHolder, UnitIs, only-core, finish-aside, finish-free}
 
@@ -59,8 +60,8 @@ aborted e j h i b ask st =
     (rw st refl) tt refl
 
 -- no block is open
-booked-bypass : (e : Engine) (j : Journal) (h : Inv e j) (i : ℕ) → coreAt e i .state ≡ Bypass → j .books i .isOpen ≡ false
-booked-bypass e j h i st = subst (λ s. Booked s (j .books i) (coreAt e i)) st (h .booked i)
+booked-bypass : (e : Engine) (j : Journal) (h : Inv e j) (i : ℕ) → coreAt e i .state ≡ Bypass → books (j .moves) i .isOpen ≡ false
+booked-bypass e j h i st = subst (λ s. Booked s (books (j .moves) i) (coreAt e i)) st (h .booked i)
 
 -- one more entry is sent
 pub one-more-sent : (taken waiting before sent : List SentEntry) (y : SentEntry) → taken ++ waiting ≡ before ++ sent → taken ++ (waiting ++ y ∷ []) ≡ before ++ (sent ++ y ∷ [])
@@ -77,7 +78,7 @@ module _ (e : Engine) (j : Journal) (h : Inv e j) (i : ℕ) (b : i < length (e .
   -- a plain instruction that neither reads, writes nor sends
   plain-aside :
       (s : State) (p : Place) → Good s (e .program) (e .memory) (freed (e .token) i) i (resting s p (coreAt e i .saved)) →
-      Booked s (ownMove (touch ask) Done (j .books i)) (resting s p (coreAt e i .saved)) →
+      Booked s (ownBook (touch ask) Done (books (j .moves) i)) (resting s p (coreAt e i .saved)) →
       (u : UnitIs e j h i Completed 1 (resting s p (coreAt e i .saved))) → u .machine .memory ≡ h .now .memory → u .machine .sent ≡ h .now .sent →
       InvAfter e j i ask (plain (viewOf e i) (coreAt e i) s p Nothing)
   plain-aside s p g k u m n = finish-aside e j h i b ask (resting s p (coreAt e i .saved)) Completed 1 Done not-i u m n g k

@@ -2,35 +2,35 @@
 -- Assumes nothing.
 use Prim.Native.Nat.{ℕ, suc, _<_}
 use mathlib.Core.Path.{_≡_, refl, sym, _∙_, ap, subst}
-use mathlib.Core.Logic.{_⊎_, inl, inr}
-use mathlib.Core.Bool.{Bool, true, false, cond, _||_, _&&_, and-true, and-false}
+use mathlib.Core.Logic.{inl, inr}
+use mathlib.Core.Bool.{true, false, _||_, _&&_, and-true, and-false}
 use mathlib.Core.List.{List, [], _∷_, _++_}
-use mathlib.Core.Option.{some}
 use lib.Dec.{ltb, eqb}
-use lib.ListN.{length, getD, set}
+use lib.ListN.{length, getD}
 use Rattle.std.proofs.shelf.Tests.{cases-bool, cond-both, cond-true, eqb-true, eq-eqb, or-left, or-right, true≢false}
 use Rattle.answers.specs.declared.answer.Fault.{Fault}
 use Rattle.answers.specs.declared.answer.Answer.the-variants.{Running, Waiting, Done, Committing, Early, Retried, Faulted}
 use Rattle.formats.specs.declared.entry.Mark.the-variants.{Completed, Discarded}
 use Rattle.formats.specs.declared.entry.SentEntry.{SentEntry}
-use Rattle.model.specs.declared.state.State.{State}
 use Rattle.model.specs.declared.state.State.the-variants.{Bypass, Transaction, Commit, EarlyFlush, EarlyCommit, Stopped}
-use Rattle.model.specs.declared.state.Token.the-variants.{Free, Core as CoreHas}
+use Rattle.model.specs.declared.state.Token.the-variants.{Free}
 use Rattle.model.specs.declared.place.Place.{Place}
 use Rattle.model.specs.Instructions.{Ask, onward, past, asks, innerAt}
 use Rattle.model.specs.Instructions.{Inner, InnerFaults, InnerMoves, InnerLoads, InnerStores, InnerSends, Closes, Restarts, TakesToken}
-use Rattle.model.specs.OneAtATime.{Machine, Inside, further, run, unit}
+use Rattle.model.specs.OneAtATime.{Inside, further, run, unit}
 use Rattle.model.specs.declared.place.Line.{Line}
 use Rattle.model.specs.declared.effect.Effect.the-variants.{Nothing}
 use Rattle.model.specs.Lines.{holds, valueAt, tagged, loadedLine, storedLine, storeAt, anyDirty}
-use Rattle.model.specs.Cores.{Core, resting, turnedTo, performed, rolledBack, settle, settledPlace, freed, becomes, takesToken, faulted, ends, early, withLine, closes, inTransaction}
+use Rattle.model.specs.Cores.{Core, resting, turnedTo, performed, rolledBack, settledPlace, freed, becomes, takesToken, faulted, ends, early, closes, inTransaction}
 use Rattle.model.specs.Engine.{Engine, coreAt, viewOf}
-use Rattle.model.specs.Runs.{Journal, Book, has, Touch, Reads, Writes, Neither, touch, touches, opened}
+use Rattle.model.specs.Journal.{Journal}
+use Rattle.model.specs.Blocks.{touch}
+use Rattle.laws.proofs.Books.{touches, opened, books}
 use Rattle.laws.proofs.Lines.{overlay, length-overlay, overlay-append, overlay-clean, getD-overlay, getD-overlay-other, overlay-storeAt}
 use Rattle.laws.proofs.Lines.{Agree, holds-append, tagged-append, holds-storeAt, tagged-storeAt, fit-append, fit-storeAt, fit-agree}
-use Rattle.laws.proofs.Invariant.{scene, Follows, Good, Booked, Tracks, Holder, Holding, Inv}
+use Rattle.laws.proofs.Invariant.{scene, Follows, Good, Booked, Tracks, Holder, Inv}
 use Rattle.laws.proofs.Keeps.{InvAfter, good-in, booked-in, free-quiet}
-use Rattle.laws.proofs.Leaves.{NoHolder, UnitIs, only-core, finish-free, take-token}
+use Rattle.laws.proofs.Leaves.{NoHolder, only-core, finish-free, take-token}
 use Rattle.laws.proofs.Plain.{if-free, when-free, waits, machineWith}
 use Rattle.laws.proofs.Decoding.{decoded}
 
@@ -47,8 +47,8 @@ module _ (e : Engine) (j : Journal) (h : Inv e j) (i : ℕ) (b : i < length (e .
   follows : Follows (e .program) (e .memory) c
   follows = subst (λ s. Good s (e .program) (e .memory) (e .token) i c) st (h .good i)
 
-  tracks : Tracks (j .books i) c
-  tracks = subst (λ s. Booked s (j .books i) c) st (h .booked i)
+  tracks : Tracks (books (j .moves) i) c
+  tracks = subst (λ s. Booked s (books (j .moves) i) c) st (h .booked i)
 
   saved-place : settledPlace (c .state) c ≡ c .saved
   saved-place = rw st refl
@@ -66,13 +66,13 @@ module _ (e : Engine) (j : Journal) (h : Inv e j) (i : ℕ) (b : i < length (e .
 
   -- the core has performed an instruction of its block
   runs-on :
-      (p : Place) (depth : ℕ) (ls : List Line) → Follows (e .program) (e .memory) (performed c p depth ls) → Tracks (touches (touch ask) (j .books i)) (performed c p depth ls) →
+      (p : Place) (depth : ℕ) (ls : List Line) → Follows (e .program) (e .memory) (performed c p depth ls) → Tracks (touches (touch ask) (books (j .moves) i)) (performed c p depth ls) →
       InvAfter e j i ask (becomes (viewOf e i) (performed c p depth ls) Running)
   runs-on p depth ls f t =
       only-core e j h i b ask (performed c p depth ls) Running not-i (rw st refl)
       (good-in Transaction (e .program) (e .memory) (e .token) i (performed c p depth ls) st f)
-      (subst (λ k. Booked (c .state) k (performed c p depth ls)) (sym (cond-true (j .books i .isOpen) (touches (touch ask) (j .books i)) opened (tracks .isOpen)))
-      (booked-in Transaction (touches (touch ask) (j .books i)) (performed c p depth ls) st t))
+      (subst (λ k. Booked (c .state) k (performed c p depth ls)) (sym (cond-true (books (j .moves) i .isOpen) (touches (touch ask) (books (j .moves) i)) opened (tracks .isOpen)))
+      (booked-in Transaction (touches (touch ask) (books (j .moves) i)) (performed c p depth ls) st t))
 
   -- the core takes the token to commit early
   takes-early : InvAfter e j i ask (early (viewOf e i) c)

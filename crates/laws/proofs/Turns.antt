@@ -1,9 +1,9 @@
 -- The machine takes one more turn: what the record's next entry comes to.
 -- Assumes nothing.
 use Prim.Native.Nat.{ℕ}
-use mathlib.Core.Path.{_≡_, refl, sym, _∙_, ap}
+use mathlib.Core.Path.{_≡_, refl}
 use mathlib.Core.Bool.{false}
-use mathlib.Core.List.{List, [], _∷_, _++_, map}
+use mathlib.Core.List.{List, [], _∷_, _++_}
 use mathlib.Core.Option.{Option, none, some}
 use lib.ListN.{getD, List·getD-map}
 use Rattle.formats.specs.declared.entry.Mark.{Mark}
@@ -11,7 +11,7 @@ use Rattle.formats.specs.declared.instruction.Instruction.{Instruction}
 use Rattle.model.specs.OneAtATime.{Machine, Turn, noCore, run, unit, turn, andThen, runs}
 use Rattle.model.specs.Cores.{settle, settledStopped, settledPlace}
 use Rattle.model.specs.Engine.{Engine, coreAt, blank}
-use Rattle.model.specs.Runs.{Journal}
+use Rattle.model.specs.Journal.{Journal}
 use Rattle.laws.proofs.Invariant.{scene, Inv}
 
 runs-append : (program : List Instruction) (ts : List Turn) (t : Turn) (m : Machine) → runs program (ts ++ t ∷ []) m ≡ andThen (runs program ts m) (turn program t)

@@ -2,50 +2,27 @@
 --   Outlet    the waiting entries and the room
 --   Settings  program, entry places and lines;  check  the first refusal;  make  the engine
 --   change    the one way in which a step changes an engine
---   step, turn, clear, hold, read, giveBack, take, entry, Tags, look    the calls
 -- Assumes nothing.
-use Prim.Native.Nat.{ℕ, zero, suc, _+_}
-use mathlib.Core.Path.{_≡_}
-use mathlib.Core.Bool.{Bool, true, false, cond, _&&_}
+use Prim.Native.Nat.{ℕ, zero, suc}
+use mathlib.Core.Bool.{Bool, true, cond, _&&_}
 use mathlib.Core.List.{List, [], _∷_, _++_, map}
-use lib.Dec.{ltb, leb, eqb}
-use lib.ListN.{length, getD, set, take, drop, replicate}
-use Rattle.std.specs.declared.option.Option.{Option}
-use Rattle.std.specs.declared.option.Option.the-variants.{Some, None}
+use lib.Dec.{ltb, leb}
+use lib.ListN.{length, getD, set, replicate}
 use Rattle.std.specs.declared.result.Result.{Result}
 use Rattle.std.specs.declared.result.Result.the-variants.{Ok, Err}
-use Rattle.answers.specs.declared.answer.Answer.{Answer}
-use Rattle.answers.specs.declared.refusal.NothingWaits.{NothingWaits}
 use Rattle.formats.specs.declared.entry.SentEntry.{SentEntry}
 use Rattle.formats.specs.declared.instruction.Instruction.{Instruction}
 use Rattle.model.specs.declared.refusal.CheckRefusal.{CheckRefusal}
 use Rattle.model.specs.declared.refusal.CheckRefusal.the-variants.{CoreCount, LineCount, MemoryLength, EntryOutside}
-use Rattle.model.specs.declared.refusal.StepRefusal.{StepRefusal}
-use Rattle.model.specs.declared.refusal.StepRefusal.the-variants.{NoSuchCore, RecordFull}
-use Rattle.model.specs.declared.refusal.ClearRefusal.{ClearRefusal}
-use Rattle.model.specs.declared.refusal.ClearRefusal.the-variants.{TokenTaken}
-use Rattle.model.specs.declared.refusal.HoldRefusal.{HoldRefusal}
-use Rattle.model.specs.declared.refusal.HoldRefusal.the-variants.{TokenTaken as NotForHost}
-use Rattle.model.specs.declared.refusal.ReadRefusal.{ReadRefusal}
-use Rattle.model.specs.declared.refusal.ReadRefusal.the-variants.{NotHeld, AddressOutside}
-use Rattle.model.specs.declared.refusal.GiveBackRefusal.{GiveBackRefusal}
-use Rattle.model.specs.declared.refusal.GiveBackRefusal.the-variants.{NotHeld as NothingHeld}
-use Rattle.model.specs.declared.refusal.RecordRefusal.{RecordRefusal}
-use Rattle.model.specs.declared.refusal.RecordRefusal.the-variants.{NotFilled}
-use Rattle.model.specs.declared.refusal.TagsRefusal.{TagsRefusal}
-use Rattle.model.specs.declared.refusal.TagsRefusal.the-variants.{NoSuchCore as NoTags, TooShort}
 use Rattle.model.specs.declared.state.State.{State}
 use Rattle.model.specs.declared.state.State.the-variants.{Bypass, Transaction, Commit, Abort, EarlyFlush, EarlyCommit, Stopped}
-use Rattle.model.specs.declared.state.Look.{Look}
 use Rattle.model.specs.declared.state.Token.{Token}
-use Rattle.model.specs.declared.state.Token.the-variants.{Free, Core as CoreHas, Host}
-use Rattle.model.specs.declared.place.Place.{Place}
+use Rattle.model.specs.declared.state.Token.the-variants.{Free}
 use Rattle.model.specs.OneAtATime.{Turn}
-use Rattle.model.specs.declared.place.Line.{Line}
 use Rattle.model.specs.declared.effect.Effect.{Effect}
 use Rattle.model.specs.declared.effect.Effect.the-variants.{Nothing, Wrote, Sent}
 use Rattle.model.specs.Lines.{tagged}
-use Rattle.model.specs.Cores.{Core, resting, turnedTo, View, Outcome, outcome}
+use Rattle.model.specs.Cores.{Core, resting, turnedTo, View, Outcome}
 
 -- the entries that wait, oldest first, and how many more find room
 pub record Outlet : Type 0 where
@@ -175,198 +152,3 @@ change e i o = record {
   entries = e .entries ++ o .entries;
   next = e .next;
 }
-
--- the engine after a call, and what the call answers
-pub record After (A : Type 0) : Type 0 where
-  pub engine : Engine
-  pub answer : A
-
--- a call that leaves the engine as it is
-abbrev pub stays : {A : Type 0} → Engine → A → After A
-stays e a = record { engine = e; answer = a }
-
--- how many free entries of the record a step of a core asks for
-abbrev pub wanted : Token → ℕ → ℕ
-wanted Free i = 1
-wanted (CoreHas k) i = cond (eqb k i) 1 2
-wanted Host i = 1
-
--- what a step of a core comes to
-abbrev pub outcomeOf : Engine → ℕ → Outcome
-outcomeOf e i = outcome (viewOf e i) (coreAt e i)
-
--- a step that is not refused
-abbrev pub stepped : Engine → ℕ → After (Result Answer StepRefusal)
-stepped e i = record { engine = change e i (outcomeOf e i); answer = Ok (outcomeOf e i .answer) }
-
--- one core moves
-abbrev pub step : Engine → ℕ → After (Result Answer StepRefusal)
-step e i =
-    cond (ltb i (length (e .cores)))
-    (cond (leb (length (e .entries) + wanted (e .token) i) 1024)
-    (stepped e i)
-    (stays e (Err RecordFull)))
-    (stays e (Err NoSuchCore))
-
--- the core after a core, the first after the last
-abbrev pub following : ℕ → ℕ → ℕ
-following i n = cond (ltb (suc i) n) (suc i) 0
-
--- the next core is next, unless the turn was refused
-abbrev pub advanced : Result Answer StepRefusal → Engine → Engine
-advanced (Ok a) e = record {
-  program = e .program;
-  capacity = e .capacity;
-  memory = e .memory;
-  outlet = e .outlet;
-  cores = e .cores;
-  token = e .token;
-  entries = e .entries;
-  next = following (e .next) (length (e .cores));
-}
-advanced (Err r) e = e
-
--- the core whose turn it is moves
-abbrev pub turn : Engine → After (Result Answer StepRefusal)
-turn e = record { engine = advanced (step e (e .next) .answer) (step e (e .next) .engine); answer = step e (e .next) .answer }
-
--- the engine with an empty record
-abbrev pub emptied : Engine → Engine
-emptied e = record {
-  program = e .program;
-  capacity = e .capacity;
-  memory = e .memory;
-  outlet = e .outlet;
-  cores = e .cores;
-  token = e .token;
-  entries = [];
-  next = e .next;
-}
-
--- the record is emptied
-abbrev pub clearIf : Token → Engine → After (Result (Unit {0}) ClearRefusal)
-clearIf Free e = record { engine = emptied e; answer = Ok tt }
-clearIf (CoreHas k) e = stays e (Err TokenTaken)
-clearIf Host e = stays e (Err TokenTaken)
-
-abbrev pub clear : Engine → After (Result (Unit {0}) ClearRefusal)
-clear e = clearIf (e .token) e
-
--- the engine with the token elsewhere
-abbrev pub withToken : Engine → Token → Engine
-withToken e t = record {
-  program = e .program;
-  capacity = e .capacity;
-  memory = e .memory;
-  outlet = e .outlet;
-  cores = e .cores;
-  token = t;
-  entries = e .entries;
-  next = e .next;
-}
-
--- the host takes the token
-abbrev pub holdIf : Token → Engine → After (Result (Unit {0}) HoldRefusal)
-holdIf Free e = record { engine = withToken e Host; answer = Ok tt }
-holdIf (CoreHas k) e = stays e (Err NotForHost)
-holdIf Host e = stays e (Err NotForHost)
-
-abbrev pub hold : Engine → After (Result (Unit {0}) HoldRefusal)
-hold e = holdIf (e .token) e
-
--- the host reads a word while it has the token
-abbrev pub readIf : Token → Engine → ℕ → Result ℕ ReadRefusal
-readIf Free e a = Err NotHeld
-readIf (CoreHas k) e a = Err NotHeld
-readIf Host e a = cond (ltb a (length (e .memory))) (Ok (getD (e .memory) a 0)) (Err AddressOutside)
-
-abbrev pub read : Engine → ℕ → Result ℕ ReadRefusal
-read e a = readIf (e .token) e a
-
--- the host gives the token back
-abbrev pub giveBackIf : Token → Engine → After (Result (Unit {0}) GiveBackRefusal)
-giveBackIf Free e = stays e (Err NothingHeld)
-giveBackIf (CoreHas k) e = stays e (Err NothingHeld)
-giveBackIf Host e = record { engine = withToken e Free; answer = Ok tt }
-
-abbrev pub giveBack : Engine → After (Result (Unit {0}) GiveBackRefusal)
-giveBack e = giveBackIf (e .token) e
-
--- the engine with another outlet
-abbrev pub withOutlet : Engine → Outlet → Engine
-withOutlet e o = record {
-  program = e .program;
-  capacity = e .capacity;
-  memory = e .memory;
-  outlet = o;
-  cores = e .cores;
-  token = e .token;
-  entries = e .entries;
-  next = e .next;
-}
-
--- the oldest waiting entry is taken
-abbrev pub takeFrom : List SentEntry → Engine → After (Result SentEntry NothingWaits)
-takeFrom [] e = stays e (Err (record {}))
-takeFrom (x ∷ xs) e = record { engine = withOutlet e (record { waiting = xs; room = suc (e .outlet .room) }); answer = Ok x }
-
-abbrev pub takeOldest : Engine → After (Result SentEntry NothingWaits)
-takeOldest e = takeFrom (e .outlet .waiting) e
-
--- the entry at a place of the record
-abbrev pub entryIn : List Turn → ℕ → Result Turn RecordRefusal
-entryIn [] n = Err NotFilled
-entryIn (t ∷ ts) zero = Ok t
-entryIn (t ∷ ts) (suc n) = entryIn ts n
-
-abbrev pub entry : Engine → ℕ → Result Turn RecordRefusal
-entry e n = entryIn (e .entries) n
-
--- how many lines are tagged
-abbrev pub tagCount : List Line → ℕ
-tagCount [] = 0
-tagCount (l ∷ ls) = cond (l .tag) (suc (tagCount ls)) (tagCount ls)
-
--- how often a number stands in a list
-abbrev pub times : ℕ → List ℕ → ℕ
-times a [] = 0
-times a (x ∷ xs) = cond (eqb x a) (suc (times a xs)) (times a xs)
-
--- tags that were copied: the one order that is left free, with what holds of it
-pub record TagsCopied (ls : List Line) (before after : List ℕ) (number : ℕ) : Type 0 where
-  -- the answer is the number of tagged lines
-  pub counted : number ≡ tagCount ls
-  -- the list is as long as it was
-  pub size : length after ≡ length before
-  -- in the first places each tagged address stands once, and nothing else
-  pub each : (a : ℕ) → times a (take number after) ≡ cond (tagged ls a) 1 0
-  -- the other places are as they were
-  pub rest : drop number after ≡ drop number before
-
--- tags that were refused: the list is as it was
-abbrev pub TagsRefused : TagsRefusal → List ℕ → List ℕ → Result ℕ TagsRefusal → Type 0
-TagsRefused r before after answer = (answer ≡ Err r) × (after ≡ before)
-
--- tags that were not refused
-abbrev pub TagsAnswered : List Line → List ℕ → List ℕ → Result ℕ TagsRefusal → Type 0
-TagsAnswered ls before after answer = (number : ℕ) × (answer ≡ Ok number) × TagsCopied ls before after number
-
--- what copying a core's tags to a list answers and leaves there
-abbrev pub Tags : Engine → ℕ → List ℕ → List ℕ → Result ℕ TagsRefusal → Type 0
-Tags e i before after answer =
-    cond (ltb i (length (e .cores)))
-    (cond (leb (tagCount (coreAt e i .lines)) (length before))
-    (TagsAnswered (coreAt e i .lines) before after answer)
-    (TagsRefused TooShort before after answer))
-    (TagsRefused NoTags before after answer)
-
--- a look at a core
-abbrev pub lookAt : Core → Look
-lookAt c = record { state = c .state; pc = c .place .pc; registers = c .place .registers; depth = c .depth; count = c .count; used = length (c .lines) }
-
-abbrev pub look : Engine → ℕ → Option Look
-look e i = cond (ltb i (length (e .cores))) (Some (lookAt (coreAt e i))) None
-
--- who has the token
-abbrev pub holder : Engine → Token
-holder e = e .token

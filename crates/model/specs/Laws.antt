@@ -1,18 +1,22 @@
 -- The three laws, over every settings, memory, outlet and list of calls, at every point of the run.
 --   SerialAt, RollBackAt, HeldReadAt    what each law says of a run
---   Serial, RollBack, HeldRead          that it holds of every run
---   Lawful                              all three, at every point of one list of calls
+--   ObservedAt                          that what is observed is all that happens to memory and outlet
+--   Serial, RollBack, HeldRead          that a law holds of every run
+--   Played                              that a run's engine is the new engine after its calls
+--   TagsServed                          that tags can always be copied as they are to be
+--   Lawful, Laws                        all three, at every point of one list of calls, and of every list
 -- Assumes nothing.
-use Prim.Native.Nat.{ℕ}
+use Prim.Native.Nat.{ℕ, _<_}
 use mathlib.Core.Path.{_≡_}
 use mathlib.Core.Logic.{_↔_}
-use mathlib.Core.Bool.{Bool, true}
 use mathlib.Core.List.{List, _++_, map}
 use mathlib.Core.Option.{some}
-use lib.ListN.{getD, take}
+use lib.ListN.{length, getD, take}
+use Rattle.std.specs.declared.result.Result.{Result}
 use Rattle.std.specs.declared.result.Result.the-variants.{Ok}
 use Rattle.answers.specs.declared.answer.Answer.{Answer}
 use Rattle.answers.specs.declared.answer.Answer.the-variants.{RolledBack}
+use Rattle.model.specs.declared.refusal.TagsRefusal.{TagsRefusal}
 use Rattle.model.specs.declared.state.Token.{Token}
 use Rattle.model.specs.declared.state.Token.the-variants.{Free, Core as CoreHas, Host}
 use Rattle.model.specs.declared.call.Call.{Call}
@@ -21,9 +25,13 @@ use Rattle.model.specs.declared.call.Reply.the-variants.{Word}
 use Rattle.model.specs.Instructions.{Ask}
 use Rattle.model.specs.OneAtATime.{Machine, runs}
 use Rattle.model.specs.declared.effect.Effect.{Effect}
+use Rattle.model.specs.Lines.{Distinct}
 use Rattle.model.specs.Cores.{settle}
-use Rattle.model.specs.Engine.{Settings, Outlet}
-use Rattle.model.specs.Runs.{Run, Moved, event, reply, history}
+use Rattle.model.specs.Engine.{Settings, Outlet, make, coreAt}
+use Rattle.model.specs.Calls.{Tags}
+use Rattle.model.specs.Runs.{Moved, event, played, memorySeen, sentIn, takenIn, reply, plays}
+use Rattle.model.specs.Blocks.{OpenAndHit}
+use Rattle.model.specs.Journal.{Run, history}
 
 -- no core has the token; the host may
 abbrev pub NoCoreHas : Token → Type 0
@@ -43,6 +51,17 @@ pub record Explained (r : Run) : Type 0 where
   -- the entries taken since the clearing, then those waiting, are those waiting at the clearing, then those sent
   pub sent : r .journal .taken ++ r .engine .outlet .waiting ≡ r .journal .waiting ++ machine .sent
 
+-- observed: an event tells every word that a call writes and every entry that it sends or takes
+pub record Told (r : Run) (c : Call) : Type 0 where
+  pub memory : played (r .engine) c .memory ≡ memorySeen (event (r .engine) c) (r .engine .memory)
+  pub outlet :
+      takenIn (event (r .engine) c) ++ played (r .engine) c .outlet .waiting
+      ≡ r .engine .outlet .waiting ++ sentIn (event (r .engine) c)
+
+-- the same of every call
+abbrev pub ObservedAt : Run → Type 0
+ObservedAt r = (c : Call) → Told r c
+
 -- serial: whenever no core has the token, the record explains the engine
 abbrev pub SerialAt : Run → Type 0
 SerialAt r = NoCoreHas (r .engine .token) → Explained r
@@ -52,12 +71,13 @@ abbrev pub RollBackAt : Run → Type 0
 RollBackAt r =
     (c : Call) (i : ℕ) (ask : Ask) (answer : Answer) (x : Effect) →
     event (r .engine) c ≡ Moved i ask answer x →
-    (answer ≡ RolledBack) ↔ ((r .journal .books i .isOpen ≡ true) × (r .journal .books i .hit ≡ true))
+    (answer ≡ RolledBack) ↔ OpenAndHit i (r .journal .moves)
 
 -- a word of the machine that has run the entries present when the hold began
 pub record HeldWord (r : Run) (a w : ℕ) : Type 0 where
   pub machine : Machine
   pub possible : runs (r .engine .program) (r .journal .held) (r .journal .start) ≡ some machine
+  pub inside : a < length (machine .memory)
   pub word : w ≡ getD (machine .memory) a 0
 
 -- held read: a read that is not refused answers the word that the machine has there after the entries present when the hold began
@@ -76,11 +96,27 @@ RollBack = (s : Settings) (m : List ℕ) (o : Outlet) (cs : List Call) → RollB
 abbrev pub HeldRead : Type 0
 HeldRead = (s : Settings) (m : List ℕ) (o : Outlet) (cs : List Call) → HeldReadAt (history s m o cs)
 
--- all three laws of one run
+-- events tell all that happens to memory and outlet
+abbrev pub Observed : Type 0
+Observed = (s : Settings) (m : List ℕ) (o : Outlet) (cs : List Call) → ObservedAt (history s m o cs)
+
+-- the engine of a run is the new engine after its calls
+abbrev pub Played : Type 0
+Played = (s : Settings) (m : List ℕ) (o : Outlet) (cs : List Call) → history s m o cs .engine ≡ plays (make s m o) cs
+
+-- at every point of a run a core's lines are at different addresses, and the tags of every core can be copied to every list
+abbrev pub TagsServed : Type 0
+TagsServed =
+    (s : Settings) (m : List ℕ) (o : Outlet) (cs : List Call) (i : ℕ) (before : List ℕ) →
+    Distinct (coreAt (history s m o cs .engine) i .lines)
+    × ((after : List ℕ) × (answer : Result ℕ TagsRefusal) × Tags (history s m o cs .engine) i before after answer)
+
+-- all three laws of one run, in what was truly observed
 pub record LawsAt (r : Run) : Type 0 where
   pub serial : SerialAt r
   pub rollBack : RollBackAt r
   pub heldRead : HeldReadAt r
+  pub observed : ObservedAt r
 
 -- all three laws at every point of a list of calls
 abbrev pub Lawful : Settings → List ℕ → Outlet → List Call → Type 0

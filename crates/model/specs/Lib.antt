@@ -4,5 +4,8 @@ pub mod OneAtATime
 pub mod Lines
 pub mod Cores
 pub mod Engine
+pub mod Calls
 pub mod Runs
+pub mod Blocks
+pub mod Journal
 pub mod Laws

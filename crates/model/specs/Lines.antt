@@ -1,9 +1,11 @@
 -- The write buffer of a core: lines in the order in which they were made.
 --   holds     is there a line at an address?  valueAt  its value;  tagged  is it tagged?
 --   storeAt   the line at an address takes a value and becomes dirty
+--   tags      the tagged addresses;  Distinct  no two lines are at one address
 --   anyDirty  is a line dirty?  wrote  the write of the oldest dirty line;  left  the lines after it
 -- Assumes nothing.
 use Prim.Native.Nat.{ℕ}
+use mathlib.Core.Path.{_≡_}
 use mathlib.Core.Bool.{Bool, true, false, cond, _||_, _&&_}
 use mathlib.Core.List.{List, [], _∷_}
 use lib.Dec.{eqb}
@@ -61,3 +63,13 @@ wrote (l ∷ ls) = cond (l .dirty) (Wrote (l .address) (l .value)) (wrote ls)
 abbrev pub left : List Line → List Line
 left [] = []
 left (l ∷ ls) = cond (l .dirty) (cleaned l ∷ ls) (l ∷ left ls)
+
+-- the tagged addresses, in the order of the lines
+abbrev pub tags : List Line → List ℕ
+tags [] = []
+tags (l ∷ ls) = cond (l .tag) (l .address ∷ tags ls) (tags ls)
+
+-- no two lines are at one address
+abbrev pub Distinct : List Line → Type 0
+Distinct [] = Unit {0}
+Distinct (l ∷ ls) = (holds ls (l .address) ≡ false) × Distinct ls

@@ -9,7 +9,6 @@ use Prim.Native.Nat.{ℕ, zero, suc}
 use mathlib.Core.Bool.{Bool, true, false, cond}
 use mathlib.Core.List.{List, [], _∷_, _++_}
 use mathlib.Core.Option.{Option, none, some}
-use lib.Dec.{ltb}
 use lib.ListN.{length, getD, set}
 use Rattle.formats.specs.declared.entry.SentEntry.{SentEntry}
 use Rattle.formats.specs.declared.entry.Mark.{Mark}

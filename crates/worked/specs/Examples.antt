@@ -6,39 +6,42 @@ use Prim.Native.Nat.{ℕ, _<_}
 use mathlib.Core.Path.{_≡_}
 use mathlib.Core.List.{List, [], _∷_, map}
 use lib.Dec.{lit<}
-use Rattle.std.specs.declared.result.Result.the-variants.{Ok, Err}
+use Rattle.std.specs.declared.result.Result.the-variants.{Ok}
 use Rattle.formats.specs.declared.immediate.Immediate.{Immediate}
 use Rattle.formats.specs.declared.register.Register.the-variants.{R0, R1, R2, R3}
 use Rattle.formats.specs.declared.entry.Mark.{Mark}
-use Rattle.formats.specs.declared.entry.Mark.the-variants.{Completed, Discarded, Kept}
+use Rattle.formats.specs.declared.entry.Mark.the-variants.{Completed}
 use Rattle.formats.specs.declared.instruction.Instruction.{Instruction}
-use Rattle.formats.specs.declared.instruction.Instruction.the-variants.{Halt, Set, Add, Sub, Mean, Load, Store, Jump, Jz, Jlt, Begin, End, Retry, Early as EarlyToken, Out}
+use Rattle.formats.specs.declared.instruction.Instruction.the-variants.{Halt, Set, Add, Sub, Mean, Load, Store, Begin, End}
 use Rattle.answers.specs.declared.answer.Fault.the-variants.{AddressOutside}
 use Rattle.answers.specs.declared.answer.Answer.{Answer}
-use Rattle.answers.specs.declared.answer.Answer.the-variants.{Running, Waiting, Done, Committing, Early, Full, RolledBack, Retried, Faulted, Stopped}
+use Rattle.answers.specs.declared.answer.Answer.the-variants.{Running, Waiting, Done, Committing, Early, RolledBack, Faulted}
 use Rattle.model.specs.declared.call.Call.{Call}
-use Rattle.model.specs.declared.call.Call.the-variants.{Step, Turn, Clear, Hold, Read, GiveBack, Take}
+use Rattle.model.specs.declared.call.Call.the-variants.{Step}
 use Rattle.model.specs.declared.call.Reply.{Reply}
-use Rattle.model.specs.declared.call.Reply.the-variants.{Stepped, Cleared, Held, Word, GivenBack, Taken}
+use Rattle.model.specs.declared.call.Reply.the-variants.{Stepped}
 use Rattle.model.specs.Instructions.{reg}
 use Rattle.model.specs.OneAtATime.{Turn as Entry}
 use Rattle.model.specs.Engine.{Outlet, Engine, make, coreAt}
-use Rattle.model.specs.Runs.{replies, mores, fresh}
+use Rattle.model.specs.Runs.{replies, plays}
 
 -- a number in an instruction
 abbrev pub imm : (n : ℕ) → n < 262144 → Immediate
 imm n h = record { value = n; fits = h }
 
+-- the number 0
 abbrev pub n0 : Immediate
 n0 = imm 0 (lit< tt)
 
+-- the number 1
 abbrev pub n1 : Immediate
 n1 = imm 1 (lit< tt)
 
--- the numbers 3 and 4
+-- the number 3
 abbrev pub n3 : Immediate
 n3 = imm 3 (lit< tt)
 
+-- the number 4
 abbrev pub n4 : Immediate
 n4 = imm 4 (lit< tt)
 
@@ -50,14 +53,11 @@ outletOf room = record { waiting = []; room = room }
 abbrev pub engineOf : List Instruction → List ℕ → ℕ → List ℕ → ℕ → Engine
 engineOf program places lines memory room = make (record { program = program; places = places; lines = lines }) memory (outletOf room)
 
--- the engine after a list of calls
-abbrev pub engineAfter : Engine → List Call → Engine
-engineAfter e cs = mores (fresh e) cs .engine
-
--- steps of cores, and what they answer
+-- steps of cores
 abbrev pub steps : List ℕ → List Call
 steps = map Step
 
+-- what they answer
 abbrev pub answers : List Answer → List Reply
 answers = map (λ a. Stepped (Ok a))
 
@@ -89,16 +89,16 @@ counterRun = steps (0 ∷ 0 ∷ 0 ∷ 0 ∷ 0 ∷ 1 ∷ 1 ∷ 1 ∷ 1 ∷ 1 ∷ 
 pub record Worked : Type 0 where
   -- the mean of 3 and 4 is 3
   pub mean : replies (engineOf meanProgram (0 ∷ []) 1 (0 ∷ []) 0) (steps (0 ∷ 0 ∷ 0 ∷ [])) ≡ answers (Done ∷ Done ∷ Done ∷ [])
-  pub meant : reg (coreAt (engineAfter (engineOf meanProgram (0 ∷ []) 1 (0 ∷ []) 0) (steps (0 ∷ 0 ∷ 0 ∷ []))) 0 .place .registers) R3 ≡ 3
+  pub meant : reg (coreAt (plays (engineOf meanProgram (0 ∷ []) 1 (0 ∷ []) 0) (steps (0 ∷ 0 ∷ 0 ∷ []))) 0 .place .registers) R3 ≡ 3
   -- a load at 4,294,967,295 + 1 faults 1
   pub load : replies (engineOf loadProgram (0 ∷ []) 1 (0 ∷ []) 0) (steps (0 ∷ 0 ∷ 0 ∷ [])) ≡ answers (Done ∷ Done ∷ Faulted AddressOutside 2 ∷ [])
   -- two cores count
   pub counters :
       replies (engineOf counterProgram (0 ∷ 0 ∷ []) 4 (0 ∷ []) 0) counterRun
       ≡ answers (Running ∷ Running ∷ Running ∷ Running ∷ Running ∷ Running ∷ Running ∷ Running ∷ Running ∷ Running ∷ Committing ∷ Waiting ∷ Done ∷ RolledBack ∷ [])
-  pub counted : engineAfter (engineOf counterProgram (0 ∷ 0 ∷ []) 4 (0 ∷ []) 0) counterRun .entries ≡ entryOf 0 Completed 6 ∷ []
+  pub counted : plays (engineOf counterProgram (0 ∷ 0 ∷ []) 4 (0 ∷ []) 0) counterRun .entries ≡ entryOf 0 Completed 6 ∷ []
   -- one line is too few for two words
   pub pair :
       replies (engineOf pairProgram (0 ∷ []) 1 (0 ∷ 0 ∷ []) 0) (steps (0 ∷ 0 ∷ 0 ∷ 0 ∷ 0 ∷ []))
       ≡ answers (Running ∷ Running ∷ Early ∷ Running ∷ Done ∷ [])
-  pub paired : engineAfter (engineOf pairProgram (0 ∷ []) 1 (0 ∷ 0 ∷ []) 0) (steps (0 ∷ 0 ∷ 0 ∷ 0 ∷ 0 ∷ [])) .entries ≡ entryOf 0 Completed 4 ∷ []
+  pub paired : plays (engineOf pairProgram (0 ∷ []) 1 (0 ∷ 0 ∷ []) 0) (steps (0 ∷ 0 ∷ 0 ∷ 0 ∷ 0 ∷ [])) .entries ≡ entryOf 0 Completed 4 ∷ []

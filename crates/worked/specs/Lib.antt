@@ -1,1 +1,4 @@
 pub mod Examples
+pub mod Witnesses
+pub mod Limits
+pub mod Compared

@@ -1,9 +1,33 @@
-// The engine's worked examples and witness runs, each shown by computing the definitions.
+// The engine's worked examples, and runs in which each law says something: theorems shown by computing the definitions.
+ghost use Rattle.worked.specs.Compared.{Compared};
 ghost use Rattle.worked.specs.Examples.{Worked};
+ghost use Rattle.worked.specs.Limits.{Limits};
+ghost use Rattle.worked.specs.Witnesses.{Witnesses};
 
-// The four worked examples.
+// The worked examples: a mean, a fault, two counters, a block that outgrows its line.
 pub fn worked_examples_hold() -> u8
     ensures { λ _. ⌜ Worked ⌝ }
+{
+    0
+}
+
+// A roll-back, an early commit, a fault with each mark, sent words, and reads between commits.
+pub fn witness_runs_hold() -> u8
+    ensures { λ _. ⌜ Witnesses ⌝ }
+{
+    0
+}
+
+// What passes at each limit, and what is refused or faults past it.
+pub fn limits_hold() -> u8
+    ensures { λ _. ⌜ Limits ⌝ }
+{
+    0
+}
+
+// Random runs, and what a simulator in another language says of each.
+pub fn comparison_holds() -> u8
+    ensures { λ _. ⌜ Compared ⌝ }
 {
     0
 }

@@ -3,7 +3,7 @@ ghost use mathlib.Core.Path.{_≡_};
 ghost use mathlib.Core.List.{[]};
 ghost use Prim.Native.Nat.{_≤_};
 ghost use lib.ListN.{length};
-ghost use Rattle.model.specs.Engine.{entryIn};
+ghost use Rattle.model.specs.Calls.{entryIn};
 ghost use Rattle.bank.specs.Logs.{turnsOf, recorded, asTurn};
 use super::Log;
 use formats::below::CoreNumber;

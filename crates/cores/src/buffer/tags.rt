@@ -1,6 +1,6 @@
 // Copying the read tags of a write buffer.
 ghost use mathlib.Core.Path.{_≡_};
-ghost use Rattle.model.specs.Engine.{tagCount};
+ghost use Rattle.model.specs.Calls.{tagCount};
 ghost use Rattle.cores.specs.Buffers.{linesOf};
 ghost use Rattle.cores.specs.Tags.{LineTags};
 use super::Buffer;

@@ -1,6 +1,6 @@
 // The calls of the engine that move no core.
 ghost use mathlib.Core.Path.{_≡_};
-ghost use Rattle.model.specs.Engine.{clear, hold, read, giveBack, takeOldest, entry, holder};
+ghost use Rattle.model.specs.Calls.{clear, hold, read, giveBack, takeOldest, entry, holder};
 ghost use Rattle.bank.specs.Logs.{asTurn};
 ghost use Rattle.engine.specs.Engines.{engineOf, heldAs, givenAs};
 use super::Engine;

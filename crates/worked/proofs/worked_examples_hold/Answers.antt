@@ -1,4 +1,5 @@
--- The worked examples.
+-- `worked::worked_examples_hold` promises the examples, and these are they.
+-- Assumes nothing.
 use Rattle.worked.proofs.Examples.{worked}
 use Rattle.worked.proofs.worked_examples_hold.Needs as need
 

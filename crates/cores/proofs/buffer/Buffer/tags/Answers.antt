@@ -3,7 +3,7 @@ use mathlib.Core.List.{List}
 use Prim.Native.Nat.{ℕ, _+_, _<_, _≤_}
 use native.Mathlib.Omega.{arith}
 use lib.ListN.{length, take}
-use Rattle.model.specs.Engine.{tagCount}
+use Rattle.model.specs.Calls.{tagCount}
 use Rattle.cores.specs.Buffers.{linesOf}
 use Rattle.cores.proofs.Tags.{Copied, copied-none, copied-tagged, copied-plain, copied-all, place-left, count-few, too-short}
 use Rattle.cores.proofs.buffer.Buffer.tags.Needs as need
