@@ -1,2 +1,5 @@
 pub mod Making
 pub mod Moving
+pub mod Rooms
+pub mod Applying
+pub mod Refusing

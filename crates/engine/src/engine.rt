@@ -12,6 +12,7 @@ use program::program::Program;
 mod calls;
 mod making;
 mod moving;
+mod stepping;
 
 // The host changes an engine only by its calls.
 pub struct Engine<M: Memory, O: Outlet> {

@@ -1,6 +1,6 @@
 // The calls of the engine that move no core.
 ghost use mathlib.Core.Path.{_≡_};
-ghost use Rattle.model.specs.Calls.{clear, hold, read, giveBack, takeOldest, entry, holder};
+ghost use Rattle.model.specs.Calls.{clear, hold, read, giveBack, takeOldest, entry, holder, look, Tags};
 ghost use Rattle.bank.specs.Logs.{asTurn};
 ghost use Rattle.engine.specs.Engines.{engineOf, heldAs, givenAs};
 use super::Engine;
@@ -14,6 +14,8 @@ use model::refusal::GiveBackRefusal;
 use model::refusal::HoldRefusal;
 use model::refusal::ReadRefusal;
 use model::refusal::RecordRefusal;
+use model::refusal::TagsRefusal;
+use model::state::Look;
 use model::state::Token;
 use outlet::waiting::Outlet;
 
@@ -114,5 +116,27 @@ impl<M: Memory, O: Outlet> Engine<M, O> {
         ensures { λ r. ⌜ r ≡ holder (engineOf M·Memory O·Outlet (now (self .entry))) ⌝ }
     {
         self.token
+    }
+
+    // What people see of a core, or None where there is no such core.
+    pub fn look(&self, i: usize) -> Option<Look>
+        ensures { λ r. ⌜ r ≡ look (engineOf M·Memory O·Outlet (now (self .entry))) i ⌝ }
+    {
+        if i < self.table.count {
+            Some(self.table.cores[i].look())
+        } else {
+            None
+        }
+    }
+
+    // Copies a core's tagged addresses to the first places of a list, each once, and answers their number.
+    pub fn tags(&self, i: usize, list: &mut [usize]) -> Result<usize, TagsRefusal>
+        ensures { λ r. ⌜ Tags (engineOf M·Memory O·Outlet (now (self .entry))) i (now (list .entry)) (now (list .exit)) r ⌝ }
+    {
+        if i < self.table.count {
+            self.table.cores[i].tags(list)
+        } else {
+            Err(TagsRefusal::NoSuchCore)
+        }
     }
 }

@@ -40,7 +40,7 @@ impl<M: Memory, O: Outlet> Engine<M, O> {
     }
 
     // What a step of a core sees.
-    fn scene(&self, i: usize) -> Scene
+    pub(crate) fn scene(&self, i: usize) -> Scene
         requires { ⌜ i < now self .table .count ⌝ }
         ensures { λ r. ⌜ sceneView (instructionsOf (now (self .entry) .program)) r ≡ sceneOf (engineOf M·Memory O·Outlet (now (self .entry))) i ⌝ }
     {
@@ -57,7 +57,7 @@ impl<M: Memory, O: Outlet> Engine<M, O> {
     }
 
     // The core moves; the rest of the engine stays as it is.
-    fn move_core(&mut self, i: usize, scene: Scene) -> Outcome
+    pub(crate) fn move_core(&mut self, i: usize, scene: Scene) -> Outcome
         requires { ⌜ i < now self .table .count ⌝ }
         ensures { λ r. ⌜ Moved (engineOf M·Memory O·Outlet (now (self .entry))) (engineOf M·Memory O·Outlet (now (self .exit))) i r (outcome (sceneView (instructionsOf (now (self .entry) .program)) scene) (coreAt (engineOf M·Memory O·Outlet (now (self .entry))) i)) ⌝ }
     {
@@ -66,7 +66,7 @@ impl<M: Memory, O: Outlet> Engine<M, O> {
     }
 
     // The rest of the engine takes what a core's move came to.
-    fn apply(&mut self, i: usize, outcome: Outcome)
+    pub(crate) fn apply(&mut self, i: usize, outcome: Outcome)
         ensures { λ _. ⌜ engineOf M·Memory O·Outlet (now (self .exit)) ≡ applied (engineOf M·Memory O·Outlet (now (self .entry))) i outcome ⌝ }
     {
         match outcome.effect {
