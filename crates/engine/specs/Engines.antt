@@ -1,8 +1,10 @@
 -- An engine of the code as the model's, and the answers that carry a pass.
 --   engineOf              the engine
 --   settingsOf            what it is made from
+--   hostHas               whether the host has the token
 --   heldAs, givenAs       a hold's and a giving back's answer, the pass left out
 -- Assumes nothing.
+use mathlib.Core.Bool.{Bool, true, false}
 use mathlib.Core.List.{List}
 use Prim.Native.Nat.{ℕ}
 use Rattle.std.specs.declared.result.Result.{Result}
@@ -13,6 +15,8 @@ use Rattle.program.specs.declared.program.Program.{Program}
 use Rattle.program.specs.Programs.{instructionsOf}
 use Rattle.model.specs.declared.refusal.HoldRefusal.{HoldRefusal}
 use Rattle.model.specs.declared.refusal.GiveBackRefusal.{GiveBackRefusal}
+use Rattle.model.specs.declared.state.Token.{Token}
+use Rattle.model.specs.declared.state.Token.the-variants.{Free, Core as CoreHas, Host}
 use Rattle.model.specs.Engine.{Engine as ModelEngine, Outlet as ModelOutlet, Settings}
 use Rattle.bank.specs.Logs.{turnsOf}
 use Rattle.bank.specs.Tables.{coresOf}
@@ -49,3 +53,9 @@ heldAs (Err r) = Err r
 abbrev pub givenAs : Result (Unit {0}) (GiveBackRefusal × Pass) → Result (Unit {0}) GiveBackRefusal
 givenAs (Ok x) = Ok x
 givenAs (Err r) = Err (r .0)
+
+-- whether the host has the token
+abbrev pub hostHas : Token → Bool
+hostHas Free = false
+hostHas (CoreHas k) = false
+hostHas Host = true

@@ -39,10 +39,21 @@ impl<M: Memory, O: Outlet> Engine<M, O> {
         ensures after { λ _. ⌜ engineOf M·Memory O·Outlet (now (self .exit)) ≡ hold (engineOf M·Memory O·Outlet (now (self .entry))) .engine ⌝ }
         ensures answer { λ r. ⌜ heldAs r ≡ hold (engineOf M·Memory O·Outlet (now (self .entry))) .answer ⌝ }
     {
+        match self.occupy() {
+            Ok(()) => Ok(Pass::issue()),
+            Err(refusal) => Err(refusal),
+        }
+    }
+
+    // The same without a pass.
+    pub(crate) fn occupy(&mut self) -> Result<(), HoldRefusal>
+        ensures after { λ _. ⌜ engineOf M·Memory O·Outlet (now (self .exit)) ≡ hold (engineOf M·Memory O·Outlet (now (self .entry))) .engine ⌝ }
+        ensures answer { λ r. ⌜ r ≡ hold (engineOf M·Memory O·Outlet (now (self .entry))) .answer ⌝ }
+    {
         match self.token {
             Token::Free => {
                 self.token = Token::Host;
-                Ok(Pass::issue())
+                Ok(())
             }
             _ => Err(HoldRefusal::TokenTaken),
         }
