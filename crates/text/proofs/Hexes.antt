@@ -16,12 +16,16 @@ five-bytes : (n : ℕ) → (n / 4294967296 % 256) ∷ (n / 16777216 % 256) ∷ (
 unfolding bytesOf
 five-bytes n = simp div-div-eq-div-mul
 
--- a word's bytes, digit by digit
-pub eight-digits : (n : ℕ) (bs : List ℕ) → bs ≡ (n / 16777216 % 256) ∷ (n / 65536 % 256) ∷ (n / 256 % 256) ∷ (n % 256) ∷ [] → hexByte (getD bs 0 0) ++ (hexByte (getD bs 1 0) ++ (hexByte (getD bs 2 0) ++ hexByte (getD bs 3 0))) ≡ hexText (bytesOf 4 n)
-eight-digits n bs e =
-    ap (λ (l : List ℕ). hexByte (getD l 0 0) ++ (hexByte (getD l 1 0) ++ (hexByte (getD l 2 0) ++ hexByte (getD l 3 0)))) e ∙ ap hexText (four-bytes n)
+-- a number's eight bytes
+abbrev eight : ℕ → List ℕ
+eight n = (n / 72057594037927936 % 256) ∷ (n / 281474976710656 % 256) ∷ (n / 1099511627776 % 256) ∷ (n / 4294967296 % 256) ∷ (n / 16777216 % 256) ∷ (n / 65536 % 256) ∷ (n / 256 % 256) ∷ (n % 256) ∷ []
 
--- the last five of a number's eight bytes, digit by digit
-pub ten-digits : (n : ℕ) (bs : List ℕ) → bs ≡ (n / 72057594037927936 % 256) ∷ (n / 281474976710656 % 256) ∷ (n / 1099511627776 % 256) ∷ (n / 4294967296 % 256) ∷ (n / 16777216 % 256) ∷ (n / 65536 % 256) ∷ (n / 256 % 256) ∷ (n % 256) ∷ [] → hexByte (getD bs 3 0) ++ (hexByte (getD bs 4 0) ++ (hexByte (getD bs 5 0) ++ (hexByte (getD bs 6 0) ++ hexByte (getD bs 7 0)))) ≡ hexText (bytesOf 5 n)
+-- the last four of them, digit by digit
+pub eight-digits : (n : ℕ) (bs : List ℕ) → bs ≡ eight n → hexByte (getD bs 4 0) ++ (hexByte (getD bs 5 0) ++ (hexByte (getD bs 6 0) ++ (hexByte (getD bs 7 0)))) ≡ hexText (bytesOf 4 n)
+eight-digits n bs e =
+    ap (λ (l : List ℕ). hexByte (getD l 4 0) ++ (hexByte (getD l 5 0) ++ (hexByte (getD l 6 0) ++ (hexByte (getD l 7 0))))) e ∙ ap hexText (four-bytes n)
+
+-- the last five of them, digit by digit
+pub ten-digits : (n : ℕ) (bs : List ℕ) → bs ≡ eight n → hexByte (getD bs 3 0) ++ (hexByte (getD bs 4 0) ++ (hexByte (getD bs 5 0) ++ (hexByte (getD bs 6 0) ++ (hexByte (getD bs 7 0))))) ≡ hexText (bytesOf 5 n)
 ten-digits n bs e =
-    ap (λ (l : List ℕ). hexByte (getD l 3 0) ++ (hexByte (getD l 4 0) ++ (hexByte (getD l 5 0) ++ (hexByte (getD l 6 0) ++ hexByte (getD l 7 0))))) e ∙ ap hexText (five-bytes n)
+    ap (λ (l : List ℕ). hexByte (getD l 3 0) ++ (hexByte (getD l 4 0) ++ (hexByte (getD l 5 0) ++ (hexByte (getD l 6 0) ++ (hexByte (getD l 7 0)))))) e ∙ ap hexText (five-bytes n)

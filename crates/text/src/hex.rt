@@ -8,9 +8,9 @@ ghost use Rattle.formats.specs.Bytes.{bytesOf};
 ghost use Rattle.text.specs.Texts.{hexByte, hexText};
 use std::fmt;
 
-// A word as eight digits.
+// The lowest 32 bits of a number as eight digits.
 #[derive(Clone, Copy)]
-pub struct Hex8(pub u32);
+pub struct Hex8(pub u64);
 
 // The lowest 40 bits of a number as ten digits.
 #[derive(Clone, Copy)]
@@ -44,7 +44,7 @@ pub impl fmt::Display for Hex8 as Hex8Display {
     ghost shown = { λ h. Some (hexText (bytesOf 4 (h .0))) };
 
     fn fmt<W: fmt::Write>(&self, f: &mut fmt::Formatter<W>) -> fmt::Result {
-        let [a, b, c, d] = self.0.to_be_bytes();
+        let [_, _, _, _, a, b, c, d] = self.0.to_be_bytes();
         write!(f, "{}{}{}{}", Hex2(a), Hex2(b), Hex2(c), Hex2(d))
     }
 }
