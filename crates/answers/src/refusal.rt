@@ -4,6 +4,13 @@ ghost use Prim.Native.Nat.{ℕ};
 ghost use Rattle.answers.specs.Refusals.{instructionNumber, entryNumber, programNumber, listNumber, programRefusalNumber, outsideListNumber, outsideMemoryNumber, nothingWaitsNumber, placedFault, programRefusal};
 ghost use Rattle.answers.specs.declared.refusal.ListRefusal.the-variants.{Entry};
 
+// The questions that one call each asks.
+const INSIDE_MEMORY: u8 = 14;
+
+const ENTRY_WAITS: u8 = 15;
+
+const INSIDE_LIST: u8 = 16;
+
 // A refusal has the number of its question.
 pub trait Refusal {
     ghost number: { Self → ℕ };
@@ -155,7 +162,7 @@ pub impl<F: Refusal> Refusal for ListRefusal<F> as ListRefusalRefusal {
 
     fn number(&self) -> u8 {
         match self {
-            ListRefusal::Outside => 16,
+            ListRefusal::Outside => INSIDE_LIST,
             ListRefusal::Entry(placed) => placed.fault.number(),
         }
     }
@@ -165,7 +172,7 @@ pub impl Refusal for OutsideList as OutsideListRefusal {
     ghost number = { outsideListNumber };
 
     fn number(&self) -> u8 {
-        16
+        INSIDE_LIST
     }
 }
 
@@ -173,7 +180,7 @@ pub impl Refusal for OutsideMemory as OutsideMemoryRefusal {
     ghost number = { outsideMemoryNumber };
 
     fn number(&self) -> u8 {
-        14
+        INSIDE_MEMORY
     }
 }
 
@@ -181,7 +188,7 @@ pub impl Refusal for NothingWaits as NothingWaitsRefusal {
     ghost number = { nothingWaitsNumber };
 
     fn number(&self) -> u8 {
-        15
+        ENTRY_WAITS
     }
 }
 

@@ -44,7 +44,11 @@ pub fn get<E: PackedEntry>(bytes: &[u8], place: usize) -> Result<E, ListRefusal<
 }
 
 // Puts an entry at a place. Every other byte stays, and all do where the place is outside.
-pub fn put<E: PackedEntry + Drop>(bytes: &mut [u8], place: usize, entry: E) -> Result<(), OutsideList>
+pub fn put<E: PackedEntry + Drop>(
+    bytes: &mut [u8],
+    place: usize,
+    entry: E,
+) -> Result<(), OutsideList>
     ensures after { λ _. ⌜ now (bytes .exit) ≡ withEntry width (packed entry) (now (bytes .entry)) place ⌝ }
     ensures answer { λ r. ⌜ r ≡ putAnswer width (now (bytes .entry)) place ⌝ }
 {

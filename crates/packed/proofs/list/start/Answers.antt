@@ -9,8 +9,7 @@ mul-result g c = omega (arith, entry-within (c .args .len) (c .size-size .result
 
 pub returns-then-place-len : need.returns-then-place-len
 returns-then-place-len g c =
-    let size = c .size-size .ensures in
-    (
+    let size = c .size-size .ensures in (
       subst (λ (w : ℕ). c .args .place < c .args .len / w) size (c .if-place-len .taken),
       ap (λ (w : ℕ). c .args .place * w) size,
       omega (arith, size, entry-within (c .args .len) (c .size-size .result) (c .args .place) (c .if-place-len .taken)),

@@ -1,0 +1,4 @@
+pub mod Buffers
+pub mod Fronts
+pub mod Images
+pub mod Quads

@@ -1,0 +1,4 @@
+pub mod Beside
+pub mod Bytes
+pub mod Shared
+pub mod Words

@@ -1,0 +1,4 @@
+pub mod Fives
+pub mod Images
+pub mod Rings
+pub mod Turns

@@ -1,0 +1,5 @@
+pub mod Beside
+pub mod Bytes
+pub mod Places
+pub mod Ring
+pub mod Waiting

@@ -1,0 +1,3 @@
+pub mod Accepted
+pub mod Programs
+pub mod Reading
