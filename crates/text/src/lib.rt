@@ -7,3 +7,5 @@ pub mod number;
 pub mod refused;
 pub mod show;
 mod stretch;
+#[cfg(test)]
+mod tests;
