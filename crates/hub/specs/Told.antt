@@ -1,8 +1,12 @@
--- What the console tells of a packed entry.
+-- What the console tells of a packed entry, and of a program that was read.
 -- Assumes nothing.
 use mathlib.Core.List.{List, _++_}
 use Prim.Native.Nat.{ℕ}
 use lib.Chars.{codes}
+use lib.ListN.{length}
+use Rattle.std.specs.Written.{decimal}
+use Rattle.std.specs.declared.option.Option.{Option}
+use Rattle.std.specs.declared.option.Option.the-variants.{Some}
 use Rattle.std.specs.declared.convert.Infallible.{Infallible}
 use Rattle.std.specs.declared.result.Result.{Result}
 use Rattle.std.specs.declared.result.Result.the-variants.{Ok, Err}
@@ -10,7 +14,8 @@ use Rattle.answers.specs.declared.refusal.InstructionFault.{InstructionFault}
 use Rattle.answers.specs.declared.refusal.EntryFault.{EntryFault}
 use Rattle.answers.specs.declared.refusal.ListRefusal.{ListRefusal}
 use Rattle.answers.specs.declared.refusal.ListRefusal.the-variants.{Outside, Entry}
-use Rattle.answers.specs.Refusals.{instructionNumber, entryNumber, listNumber}
+use Rattle.answers.specs.declared.refusal.ProgramRefusal.{ProgramRefusal}
+use Rattle.answers.specs.Refusals.{instructionNumber, entryNumber, listNumber, programRefusalNumber}
 use Rattle.formats.specs.declared.instruction.Instruction.{Instruction}
 use Rattle.formats.specs.declared.entry.RecordEntry.{RecordEntry}
 use Rattle.formats.specs.declared.entry.SentEntry.{SentEntry}
@@ -53,3 +58,18 @@ abbrev pub told : Kind → List ℕ → ℕ → List ℕ
 told OfInstruction bytes place = instructionTold (entryAt 4 bytesInstruction bytes place)
 told OfEntry bytes place = recordTold (entryAt 4 bytesRecord bytes place)
 told OfSent bytes place = sentTold (entryAt 5 bytesSent bytes place)
+
+-- how many instructions were read, or the refusal
+abbrev pub countRead : Result (List Instruction) ProgramRefusal → Result ℕ ProgramRefusal
+countRead (Ok is) = Ok (length is)
+countRead (Err r) = Err r
+
+-- the accepted program after one more was read: a refused one leaves that which was accepted before
+abbrev pub afterReading : Result (List Instruction) ProgramRefusal → Option (List Instruction) → Option (List Instruction)
+afterReading (Ok is) before = Some is
+afterReading (Err r) before = before
+
+-- what is told of a program that was read
+abbrev pub programTold : Result ℕ ProgramRefusal → List ℕ
+programTold (Ok count) = codes "accepted " ++ decimal count
+programTold (Err r) = refusedAtText (programRefusalNumber r) (r .place)

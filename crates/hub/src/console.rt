@@ -1,5 +1,8 @@
 // One scenario, line by line.
 ghost use mathlib.Core.Path.{_≡_};
+ghost use mathlib.Core.List.{[], _∷_, _++_};
+ghost use Rattle.std.specs.Of.Vec.{vec-items};
+ghost use Rattle.std.specs.Vec.{made};
 use crate::command::Command;
 use crate::reason::ParseError;
 use program::program::Program;
@@ -15,7 +18,9 @@ pub struct Console {
 }
 
 // Appends a text and the line's end.
-pub fn write_line(out: &mut Vec<u8>, text: &str) -> Result<(), AllocError> {
+pub fn write_line(out: &mut Vec<u8>, text: &str) -> Result<(), AllocError>
+    ensures { λ r. ⌜ made r (λ _. vec-items (now (out .exit)) ≡ vec-items (now (out .entry)) ++ (now (text .entry) ++ (10 ∷ []))) ⌝ }
+{
     out.extend_from_slice(text.as_bytes())?;
     out.push(b'\n')?;
     Ok(())

@@ -1,4 +1,11 @@
 // The commands on programs and packed words, which need no engine.
+ghost use mathlib.Core.Path.{_≡_};
+ghost use Rattle.std.specs.Of.String.{string-bytes};
+ghost use Rattle.std.specs.Options.{mapped};
+ghost use Rattle.std.specs.Vec.{made};
+ghost use Rattle.program.specs.Programs.{instructionsOf};
+ghost use Rattle.program.specs.Reading.{readProgram};
+ghost use Rattle.hub.specs.Told.{countRead, afterReading, programTold};
 use crate::console::write_line;
 use crate::kind::Kind;
 use crate::reason::ParseError;
@@ -7,6 +14,7 @@ use crate::reason::ParseErrorFromReason;
 use crate::reason::Reason;
 use crate::reason::ReasonFromNumberFault;
 use crate::words::Words;
+use answers::refusal::ProgramRefusal;
 use answers::refusal::ProgramRefusalRefusal;
 use answers::refusal::Refusal;
 use program::program::Program;
@@ -106,7 +114,10 @@ impl PackedCommand {
         out: &mut Vec<u8>,
     ) -> Result<(), AllocError> {
         match self {
-            PackedCommand::Program(bytes) => accept(heap, bytes.as_slice(), program, out),
+            PackedCommand::Program(bytes) => {
+                let told = tell_program(heap, accept(bytes.as_slice(), program))?;
+                write_line(out, told.as_str())
+            }
             PackedCommand::List => list(heap, program, out),
             PackedCommand::One(kind, bytes) => {
                 let told = kind.tell(heap, bytes.as_slice(), 0)?;
@@ -117,19 +128,27 @@ impl PackedCommand {
     }
 }
 
-// Reads a program. A refused one leaves that which was accepted before.
-fn accept(
-    heap: Global,
-    bytes: &[u8],
-    program: &mut Option<Program>,
-    out: &mut Vec<u8>,
-) -> Result<(), AllocError> {
-    let answer = match Program::read(bytes) {
+// Reads a program, and answers how many instructions it has. A refused one leaves that which was accepted before.
+fn accept(bytes: &[u8], program: &mut Option<Program>) -> Result<usize, ProgramRefusal>
+    ensures value { λ r. ⌜ r ≡ countRead (readProgram (now (bytes .entry))) ⌝ }
+    ensures after { λ _. ⌜ mapped instructionsOf (now (program .exit)) ≡ afterReading (readProgram (now (bytes .entry))) (mapped instructionsOf (now (program .entry))) ⌝ }
+{
+    match Program::read(bytes) {
         Ok(accepted) => {
-            let answer = format!(heap, "accepted {}", accepted.len())?;
+            let count = accepted.len();
             *program = Some(accepted);
-            answer
+            Ok(count)
         }
+        Err(refusal) => Err(refusal),
+    }
+}
+
+// What is told of a program that was read.
+fn tell_program(heap: Global, read: Result<usize, ProgramRefusal>) -> Result<String, AllocError>
+    ensures { λ r. ⌜ made r (λ s. string-bytes s ≡ programTold read) ⌝ }
+{
+    match read {
+        Ok(count) => format!(heap, "accepted {count}"),
         Err(refusal) => format!(
             heap,
             "{}",
@@ -137,9 +156,8 @@ fn accept(
                 number: refusal.number(),
                 place: refusal.place
             }
-        )?,
-    };
-    write_line(out, answer.as_str())
+        ),
+    }
 }
 
 fn list(heap: Global, program: &Option<Program>, out: &mut Vec<u8>) -> Result<(), AllocError> {

@@ -2,7 +2,9 @@
 ghost use mathlib.Core.Path.{_≡_};
 ghost use Prim.Native.Nat.{_<_, _≤_};
 ghost use lib.ListN.{length};
-ghost use Rattle.std.specs.Options.{Cases as BySome};
+ghost use Rattle.std.specs.Options.{Cases as BySome, mapped};
+ghost use Rattle.text.specs.Lines.{nextToken};
+ghost use Rattle.hub.specs.Words.{firstOf, restOf, endOf};
 use crate::reason::ParseError;
 use crate::reason::ParseErrorFromAllocError;
 use crate::reason::Reason;
@@ -25,6 +27,8 @@ impl<'a> Words<'a> {
 
     // The next word, if there is one.
     pub fn next(&mut self) -> Option<&'a [u8]>
+        ensures value { λ r. ⌜ mapped now r ≡ firstOf (nextToken (now (self .entry) .rest .now)) ⌝ }
+        ensures after { λ _. ⌜ now (self .exit) .rest .now ≡ restOf (now (self .entry) .rest .now) (nextToken (now (self .entry) .rest .now)) ⌝ }
         ensures less { λ r. ⌜ BySome r (Unit {0}) (λ _. length (now (self .exit) .rest .now) < length (now (self .entry) .rest .now)) ⌝ }
     {
         let (token, rest) = next_token(self.rest)?;
@@ -54,7 +58,9 @@ impl<'a> Words<'a> {
     }
 
     // That no word is left.
-    pub fn end(&mut self) -> Result<(), Reason> {
+    pub fn end(&mut self) -> Result<(), Reason>
+        ensures { λ r. ⌜ r ≡ endOf (nextToken (now (self .entry) .rest .now)) ⌝ }
+    {
         match self.next() {
             None => Ok(()),
             Some(_) => Err(Reason::ExtraWord),
