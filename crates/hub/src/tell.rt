@@ -1,0 +1,96 @@
+// What the console tells of an unpacked entry: its text and its packed form, or the refusal.
+ghost use mathlib.Core.Path.{_≡_};
+ghost use Rattle.std.specs.Of.String.{string-bytes};
+ghost use Rattle.std.specs.Vec.{made};
+ghost use Rattle.hub.specs.Told.{refusedInstruction, instructionTold, recordTold, sentTold};
+use answers::refusal::EntryFault;
+use answers::refusal::EntryFaultRefusal;
+use answers::refusal::InstructionFault;
+use answers::refusal::InstructionFaultRefusal;
+use answers::refusal::ListRefusal;
+use answers::refusal::ListRefusalRefusal;
+use answers::refusal::Refusal;
+use formats::entry::RecordEntry;
+use formats::entry::SentEntry;
+use formats::instruction::Instruction;
+use formats::instruction::PackedInstruction;
+use formats::packed::PackedEntry;
+use formats::record::PackedRecord;
+use formats::sent::PackedSent;
+use std::alloc::AllocError;
+use std::alloc::Global;
+use std::convert::Infallible;
+use text::hex::Hex8;
+use text::hex::Hex8Display;
+use text::hex::Hex10;
+use text::hex::Hex10Display;
+use text::refused::Refused;
+use text::refused::RefusedAt;
+use text::refused::RefusedAtDisplay;
+use text::refused::RefusedDisplay;
+use text::show::InstructionDisplay;
+use text::show::RecordEntryDisplay;
+use text::show::SentEntryDisplay;
+use text::show::Shown;
+
+// A place outside, or the number and the place of an instruction that does not unpack.
+fn tell_refused(heap: Global, refusal: ListRefusal<InstructionFault>) -> Result<String, AllocError>
+    ensures { λ r. ⌜ made r (λ s. string-bytes s ≡ refusedInstruction refusal) ⌝ }
+{
+    match refusal {
+        ListRefusal::Outside => format!(heap, "{}", Refused { number: 16 }),
+        ListRefusal::Entry(placed) => format!(
+            heap,
+            "{}",
+            RefusedAt {
+                number: placed.fault.number(),
+                place: placed.place
+            }
+        ),
+    }
+}
+
+// A refused instruction tells its place.
+pub fn tell_instruction(
+    heap: Global,
+    unpacked: Result<Instruction, ListRefusal<InstructionFault>>,
+) -> Result<String, AllocError>
+    ensures { λ r. ⌜ made r (λ s. string-bytes s ≡ instructionTold unpacked) ⌝ }
+{
+    match unpacked {
+        Ok(entry) => format!(heap, "{} = 0x{}", Shown(entry), Hex8(entry.pack())),
+        Err(refusal) => tell_refused(heap, refusal),
+    }
+}
+
+// A refused record entry tells no place.
+pub fn tell_record(
+    heap: Global,
+    unpacked: Result<RecordEntry, ListRefusal<EntryFault>>,
+) -> Result<String, AllocError>
+    ensures { λ r. ⌜ made r (λ s. string-bytes s ≡ recordTold unpacked) ⌝ }
+{
+    match unpacked {
+        Ok(entry) => format!(heap, "{} = 0x{}", Shown(entry), Hex8(entry.pack())),
+        Err(refusal) => format!(
+            heap,
+            "{}",
+            Refused {
+                number: refusal.number()
+            }
+        ),
+    }
+}
+
+// Any five bytes are an outlet entry, so only a place outside is refused.
+pub fn tell_sent(
+    heap: Global,
+    unpacked: Result<SentEntry, ListRefusal<Infallible>>,
+) -> Result<String, AllocError>
+    ensures { λ r. ⌜ made r (λ s. string-bytes s ≡ sentTold unpacked) ⌝ }
+{
+    match unpacked {
+        Ok(entry) => format!(heap, "{} = {}", Shown(entry), Hex10(entry.pack())),
+        Err(_) => format!(heap, "{}", Refused { number: 16 }),
+    }
+}

@@ -1,0 +1,3 @@
+pub mod Hexes
+pub mod Stretches
+pub mod Tokens
