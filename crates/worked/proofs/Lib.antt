@@ -1,3 +1,4 @@
+pub mod Packed
 pub mod Examples
 pub mod Witnesses
 pub mod Limits

@@ -119,15 +119,16 @@ def instruction(i):
     name, *fields = i
     register = lambda n: f"R{n}"
     number = lambda n: f"(imm {n} (lit< tt))"
+    channel = lambda n: f"(channelOf {n})"
     kinds = {"SET": [register, number], "LOAD": [register, register, number], "STORE": [register, register, number],
-             "JUMP": [number], "JZ": [register, number], "JLT": [register, register, number], "OUT": [register, str]}
+             "JUMP": [number], "JZ": [register, number], "JLT": [register, register, number], "OUT": [register, channel]}
     shown = [kind(field) for kind, field in zip(kinds.get(name, [register] * 3), fields)]
     word = "EarlyToken" if name == "EARLY" else name.capitalize()
     return " ".join([word, *shown])
 
 
 def sent(entry):
-    return f"(record {{ channel = {entry[0]}; word = {entry[1]} }})"
+    return f"(sentWord (channelOf {entry[0]}) {entry[1]})"
 
 
 def reply(call, answer):

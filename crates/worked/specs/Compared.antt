@@ -6,6 +6,8 @@ use mathlib.Core.Path.{_≡_}
 use mathlib.Core.List.{List, [], _∷_, map}
 use lib.Dec.{lit<}
 use Rattle.std.specs.declared.result.Result.the-variants.{Ok, Err}
+use Rattle.formats.specs.Belows.{channelOf}
+use Rattle.formats.specs.Sents.{sentWord}
 use Rattle.formats.specs.declared.register.Register.the-variants.{R0, R1, R2, R3}
 use Rattle.formats.specs.declared.entry.SentEntry.{SentEntry}
 use Rattle.formats.specs.declared.entry.Mark.the-variants.{Completed, Discarded, Kept}
@@ -27,7 +29,8 @@ use Rattle.model.specs.declared.call.Reply.{Reply}
 use Rattle.model.specs.declared.call.Reply.the-variants.{Stepped, Cleared, Held, Word, GivenBack, Taken}
 use Rattle.model.specs.OneAtATime.{Turn as Entry}
 use Rattle.model.specs.Engine.{Engine}
-use Rattle.model.specs.Calls.{Look, lookAt}
+use Rattle.model.specs.declared.state.Look.{Look}
+use Rattle.model.specs.Calls.{lookAt}
 use Rattle.model.specs.Runs.{replies, plays}
 use Rattle.worked.specs.Examples.{imm, engineOf, entryOf}
 
@@ -65,7 +68,7 @@ pub record Compared : Type 0 where
       (Stepped (Ok Done) ∷ Stepped (Ok Done) ∷ Stepped (Ok Done) ∷ Stepped (Ok Done) ∷ Stepped (Ok Done) ∷ Stepped (Ok Done) ∷ Stepped (Ok Done) ∷ Stepped (Ok Done) ∷ Stepped (Ok Running) ∷ Stepped (Ok Running) ∷ Stepped (Ok Done) ∷ Stepped (Ok Done) ∷ Stepped (Ok Done) ∷ Stepped (Ok Done) ∷ Cleared (Ok tt) ∷ Stepped (Ok Running) ∷ Stepped (Ok Running) ∷ Stepped (Ok Running) ∷ Stepped (Ok Committing) ∷ Stepped (Ok RolledBack) ∷ Stepped (Ok Done) ∷ Stepped (Ok Done) ∷ Stepped (Ok Done) ∷ Stepped (Ok Running) ∷ Stepped (Ok Done) ∷ Stepped (Ok Done) ∷ GivenBack (Err NothingHeld) ∷ Stepped (Ok Running) ∷ Stepped (Ok Running) ∷ Stepped (Ok Done) ∷ [])
       (finalOf (0 ∷ 0 ∷ 5 ∷ []) ([]) 2 Free (entryOf 2 Completed 4 ∷ entryOf 2 Completed 1 ∷ entryOf 2 Completed 1 ∷ entryOf 2 Completed 1 ∷ entryOf 2 Completed 1 ∷ entryOf 2 Completed 1 ∷ []) 1 (lookOf Transaction 7 (0 ∷ 0 ∷ 0 ∷ 0 ∷ 0 ∷ 0 ∷ 0 ∷ 0 ∷ []) 1 3 1 ∷ lookOf Bypass 4 (0 ∷ 0 ∷ 0 ∷ 0 ∷ 0 ∷ 0 ∷ 0 ∷ 0 ∷ []) 0 0 0 ∷ lookOf Bypass 4 (0 ∷ 0 ∷ 0 ∷ 0 ∷ 0 ∷ 0 ∷ 0 ∷ 0 ∷ []) 0 0 0 ∷ []))
   pub run1 :
-      Agrees (engineOf (Begin ∷ Out R0 233 ∷ EarlyToken ∷ Mean R2 R3 R3 ∷ End ∷ Begin ∷ Jz R0 (imm 2 (lit< tt)) ∷ End ∷ Jump (imm 0 (lit< tt)) ∷ []) (0 ∷ 0 ∷ []) 3 (7 ∷ 7 ∷ 4 ∷ []) 0)
+      Agrees (engineOf (Begin ∷ Out R0 (channelOf 233) ∷ EarlyToken ∷ Mean R2 R3 R3 ∷ End ∷ Begin ∷ Jz R0 (imm 2 (lit< tt)) ∷ End ∷ Jump (imm 0 (lit< tt)) ∷ []) (0 ∷ 0 ∷ []) 3 (7 ∷ 7 ∷ 4 ∷ []) 0)
       (Step 0 ∷ Step 0 ∷ Step 0 ∷ Step 0 ∷ Step 0 ∷ Hold ∷ Step 0 ∷ Step 0 ∷ Step 1 ∷ Step 1 ∷ Step 1 ∷ Step 0 ∷ Step 0 ∷ Step 0 ∷ Step 0 ∷ Step 0 ∷ Step 0 ∷ Step 0 ∷ Step 0 ∷ Step 0 ∷ Step 1 ∷ Step 1 ∷ Step 1 ∷ Step 1 ∷ Step 1 ∷ Step 1 ∷ Step 0 ∷ Step 0 ∷ Step 0 ∷ Step 0 ∷ [])
       (Stepped (Ok Running) ∷ Stepped (Ok Early) ∷ Stepped (Ok Full) ∷ Stepped (Ok Full) ∷ Stepped (Ok Full) ∷ Held (Err NotForHost) ∷ Stepped (Ok Full) ∷ Stepped (Ok Full) ∷ Stepped (Ok Running) ∷ Stepped (Ok Waiting) ∷ Stepped (Ok Waiting) ∷ Stepped (Ok Full) ∷ Stepped (Ok Full) ∷ Stepped (Ok Full) ∷ Stepped (Ok Full) ∷ Stepped (Ok Full) ∷ Stepped (Ok Full) ∷ Stepped (Ok Full) ∷ Stepped (Ok Full) ∷ Stepped (Ok Full) ∷ Stepped (Ok Waiting) ∷ Stepped (Ok Waiting) ∷ Stepped (Ok Waiting) ∷ Stepped (Ok Waiting) ∷ Stepped (Ok Waiting) ∷ Stepped (Ok Waiting) ∷ Stepped (Ok Full) ∷ Stepped (Ok Full) ∷ Stepped (Ok Full) ∷ Stepped (Ok Full) ∷ [])
       (finalOf (7 ∷ 7 ∷ 4 ∷ []) ([]) 0 (CoreHas 0) ([]) 0 (lookOf EarlyCommit 1 (0 ∷ 0 ∷ 0 ∷ 0 ∷ 0 ∷ 0 ∷ 0 ∷ 0 ∷ []) 1 1 0 ∷ lookOf Transaction 1 (0 ∷ 0 ∷ 0 ∷ 0 ∷ 0 ∷ 0 ∷ 0 ∷ 0 ∷ []) 1 1 0 ∷ []))
@@ -80,7 +83,7 @@ pub record Compared : Type 0 where
       (Stepped (Ok Running) ∷ Taken (Err (record {})) ∷ Stepped (Ok Running) ∷ Stepped (Ok Running) ∷ Stepped (Ok Running) ∷ Stepped (Ok Running) ∷ Stepped (Ok Running) ∷ Stepped (Ok Running) ∷ Stepped (Ok Running) ∷ Stepped (Ok Running) ∷ Stepped (Ok Running) ∷ Stepped (Ok Running) ∷ Stepped (Ok Running) ∷ Stepped (Ok Early) ∷ Stepped (Ok Running) ∷ Stepped (Ok Running) ∷ Stepped (Ok Running) ∷ Stepped (Ok Waiting) ∷ Stepped (Ok Waiting) ∷ GivenBack (Err NothingHeld) ∷ Stepped (Ok Running) ∷ Stepped (Ok Waiting) ∷ Stepped (Ok Waiting) ∷ Stepped (Ok Waiting) ∷ Stepped (Ok Running) ∷ Stepped (Ok Running) ∷ Stepped (Ok Waiting) ∷ Stepped (Ok Waiting) ∷ Stepped (Ok Waiting) ∷ Stepped (Ok Waiting) ∷ [])
       (finalOf (4 ∷ 8 ∷ 3 ∷ 4 ∷ []) ([]) 3 (CoreHas 2) ([]) 2 (lookOf Transaction 6 (0 ∷ 8 ∷ 0 ∷ 4 ∷ 0 ∷ 0 ∷ 0 ∷ 0 ∷ []) 2 6 2 ∷ lookOf Transaction 6 (0 ∷ 8 ∷ 0 ∷ 4 ∷ 0 ∷ 0 ∷ 0 ∷ 0 ∷ []) 2 6 2 ∷ lookOf EarlyCommit 6 (0 ∷ 8 ∷ 0 ∷ 4 ∷ 0 ∷ 0 ∷ 0 ∷ 0 ∷ []) 2 6 0 ∷ []))
   pub run4 :
-      Agrees (engineOf (Begin ∷ Set R2 (imm 1 (lit< tt)) ∷ Load R3 R0 (imm 3 (lit< tt)) ∷ Mean R3 R1 R0 ∷ End ∷ Begin ∷ Load R1 R0 (imm 0 (lit< tt)) ∷ Store R0 R0 (imm 2 (lit< tt)) ∷ End ∷ Begin ∷ Store R0 R0 (imm 2 (lit< tt)) ∷ Out R0 33 ∷ End ∷ Halt ∷ []) (0 ∷ 0 ∷ []) 3 (6 ∷ 1 ∷ 7 ∷ []) 2)
+      Agrees (engineOf (Begin ∷ Set R2 (imm 1 (lit< tt)) ∷ Load R3 R0 (imm 3 (lit< tt)) ∷ Mean R3 R1 R0 ∷ End ∷ Begin ∷ Load R1 R0 (imm 0 (lit< tt)) ∷ Store R0 R0 (imm 2 (lit< tt)) ∷ End ∷ Begin ∷ Store R0 R0 (imm 2 (lit< tt)) ∷ Out R0 (channelOf 33) ∷ End ∷ Halt ∷ []) (0 ∷ 0 ∷ []) 3 (6 ∷ 1 ∷ 7 ∷ []) 2)
       (Step 0 ∷ Step 1 ∷ Step 1 ∷ Step 1 ∷ Step 1 ∷ Step 1 ∷ Step 1 ∷ Step 1 ∷ Step 1 ∷ Step 1 ∷ Read 0 ∷ Step 1 ∷ Take ∷ Step 1 ∷ Read 0 ∷ Step 1 ∷ Step 1 ∷ Step 1 ∷ Step 1 ∷ Step 1 ∷ Step 1 ∷ Step 1 ∷ Step 1 ∷ Turn ∷ Step 1 ∷ Step 1 ∷ Step 1 ∷ Step 1 ∷ Step 1 ∷ Step 0 ∷ [])
       (Stepped (Ok Running) ∷ Stepped (Ok Running) ∷ Stepped (Ok Running) ∷ Stepped (Ok (Faulted AddressOutside 2)) ∷ Stepped (Ok Stopped) ∷ Stepped (Ok Stopped) ∷ Stepped (Ok Stopped) ∷ Stepped (Ok Stopped) ∷ Stepped (Ok Stopped) ∷ Stepped (Ok Stopped) ∷ Word (Err NotHeld) ∷ Stepped (Ok Stopped) ∷ Taken (Err (record {})) ∷ Stepped (Ok Stopped) ∷ Word (Err NotHeld) ∷ Stepped (Ok Stopped) ∷ Stepped (Ok Stopped) ∷ Stepped (Ok Stopped) ∷ Stepped (Ok Stopped) ∷ Stepped (Ok Stopped) ∷ Stepped (Ok Stopped) ∷ Stepped (Ok Stopped) ∷ Stepped (Ok Stopped) ∷ Stepped (Ok Running) ∷ Stepped (Ok Stopped) ∷ Stepped (Ok Stopped) ∷ Stepped (Ok Stopped) ∷ Stepped (Ok Stopped) ∷ Stepped (Ok Stopped) ∷ Stepped (Ok (Faulted AddressOutside 2)) ∷ [])
       (finalOf (6 ∷ 1 ∷ 7 ∷ []) ([]) 2 Free (entryOf 1 Discarded 2 ∷ entryOf 0 Discarded 2 ∷ []) 1 (lookOf IsStopped 2 (0 ∷ 0 ∷ 1 ∷ 0 ∷ 0 ∷ 0 ∷ 0 ∷ 0 ∷ []) 0 0 0 ∷ lookOf IsStopped 2 (0 ∷ 0 ∷ 1 ∷ 0 ∷ 0 ∷ 0 ∷ 0 ∷ 0 ∷ []) 0 0 0 ∷ []))
@@ -105,7 +108,7 @@ pub record Compared : Type 0 where
       (Stepped (Ok Done) ∷ Stepped (Ok Done) ∷ Stepped (Ok Done) ∷ Stepped (Ok Done) ∷ Stepped (Ok Done) ∷ Stepped (Ok Running) ∷ Stepped (Ok Running) ∷ Stepped (Ok Running) ∷ Stepped (Ok Running) ∷ Stepped (Ok Done) ∷ Stepped (Ok Running) ∷ Stepped (Ok Running) ∷ Stepped (Ok Running) ∷ Stepped (Ok Running) ∷ Stepped (Ok Running) ∷ Stepped (Ok Running) ∷ Stepped (Ok Running) ∷ Stepped (Ok Running) ∷ Held (Ok tt) ∷ Stepped (Ok Running) ∷ Stepped (Ok Running) ∷ Cleared (Err TokenTaken) ∷ Stepped (Ok Running) ∷ Stepped (Ok Running) ∷ Stepped (Ok Running) ∷ Stepped (Ok Running) ∷ Stepped (Ok Running) ∷ Held (Err NotForHost) ∷ Stepped (Ok Running) ∷ Word (Ok 0) ∷ [])
       (finalOf (0 ∷ 9 ∷ 3 ∷ 7 ∷ []) ([]) 1 Host (entryOf 0 Completed 1 ∷ entryOf 2 Completed 1 ∷ entryOf 0 Completed 1 ∷ entryOf 2 Completed 1 ∷ entryOf 1 Completed 1 ∷ entryOf 1 Completed 1 ∷ []) 2 (lookOf Transaction 1 (0 ∷ 0 ∷ 0 ∷ 0 ∷ 0 ∷ 0 ∷ 0 ∷ 0 ∷ []) 1 5 2 ∷ lookOf Transaction 2 (0 ∷ 0 ∷ 0 ∷ 0 ∷ 0 ∷ 0 ∷ 0 ∷ 0 ∷ []) 1 6 2 ∷ lookOf Transaction 5 (0 ∷ 0 ∷ 0 ∷ 0 ∷ 0 ∷ 0 ∷ 0 ∷ 0 ∷ []) 2 9 2 ∷ []))
   pub run9 :
-      Agrees (engineOf (Begin ∷ Load R3 R0 (imm 0 (lit< tt)) ∷ Load R2 R1 (imm 0 (lit< tt)) ∷ Store R0 R2 (imm 0 (lit< tt)) ∷ End ∷ Begin ∷ Set R2 (imm 1 (lit< tt)) ∷ Sub R1 R0 R2 ∷ Out R3 53 ∷ End ∷ Halt ∷ []) (0 ∷ 0 ∷ 0 ∷ []) 1 (3 ∷ 2 ∷ 9 ∷ []) 0)
+      Agrees (engineOf (Begin ∷ Load R3 R0 (imm 0 (lit< tt)) ∷ Load R2 R1 (imm 0 (lit< tt)) ∷ Store R0 R2 (imm 0 (lit< tt)) ∷ End ∷ Begin ∷ Set R2 (imm 1 (lit< tt)) ∷ Sub R1 R0 R2 ∷ Out R3 (channelOf 53) ∷ End ∷ Halt ∷ []) (0 ∷ 0 ∷ 0 ∷ []) 1 (3 ∷ 2 ∷ 9 ∷ []) 0)
       (Step 0 ∷ Step 0 ∷ Turn ∷ Hold ∷ Clear ∷ Step 0 ∷ Step 1 ∷ Step 1 ∷ Step 0 ∷ Step 0 ∷ Step 0 ∷ Step 0 ∷ Step 1 ∷ Step 2 ∷ Step 2 ∷ Step 2 ∷ Step 2 ∷ Clear ∷ Step 2 ∷ Step 2 ∷ Step 8 ∷ Step 0 ∷ Step 0 ∷ Step 0 ∷ Read 1 ∷ Step 0 ∷ Step 0 ∷ Step 0 ∷ Step 2 ∷ Step 2 ∷ [])
       (Stepped (Ok Running) ∷ Stepped (Ok Running) ∷ Stepped (Ok Running) ∷ Held (Ok tt) ∷ Cleared (Err TokenTaken) ∷ Stepped (Ok Running) ∷ Stepped (Ok Running) ∷ Stepped (Ok Running) ∷ Stepped (Ok Waiting) ∷ Stepped (Ok Waiting) ∷ Stepped (Ok Waiting) ∷ Stepped (Ok Waiting) ∷ Stepped (Ok Running) ∷ Stepped (Ok Running) ∷ Stepped (Ok Running) ∷ Stepped (Ok Running) ∷ Stepped (Ok Running) ∷ Cleared (Err TokenTaken) ∷ Stepped (Ok Waiting) ∷ Stepped (Ok Waiting) ∷ Stepped (Err NoSuchCore) ∷ Stepped (Ok Waiting) ∷ Stepped (Ok Waiting) ∷ Stepped (Ok Waiting) ∷ Word (Ok 2) ∷ Stepped (Ok Waiting) ∷ Stepped (Ok Waiting) ∷ Stepped (Ok Waiting) ∷ Stepped (Ok Waiting) ∷ Stepped (Ok Waiting) ∷ [])
       (finalOf (3 ∷ 2 ∷ 9 ∷ []) ([]) 0 Host ([]) 1 (lookOf Transaction 4 (0 ∷ 0 ∷ 3 ∷ 3 ∷ 0 ∷ 0 ∷ 0 ∷ 0 ∷ []) 1 4 1 ∷ lookOf Transaction 3 (0 ∷ 0 ∷ 3 ∷ 3 ∷ 0 ∷ 0 ∷ 0 ∷ 0 ∷ []) 1 3 1 ∷ lookOf Transaction 4 (0 ∷ 0 ∷ 3 ∷ 3 ∷ 0 ∷ 0 ∷ 0 ∷ 0 ∷ []) 1 4 1 ∷ []))
@@ -160,12 +163,12 @@ pub record Compared : Type 0 where
       (Stepped (Ok Running) ∷ Stepped (Ok Running) ∷ Stepped (Ok Running) ∷ Stepped (Ok (Faulted AddressOutside 2)) ∷ Stepped (Ok Running) ∷ Stepped (Ok Running) ∷ Stepped (Ok (Faulted AddressOutside 2)) ∷ Stepped (Ok Stopped) ∷ Stepped (Ok Stopped) ∷ Stepped (Ok Stopped) ∷ Stepped (Ok Stopped) ∷ Stepped (Ok Stopped) ∷ Stepped (Ok Stopped) ∷ Stepped (Ok Stopped) ∷ GivenBack (Err NothingHeld) ∷ Stepped (Ok Stopped) ∷ Stepped (Ok Stopped) ∷ Stepped (Ok Running) ∷ Stepped (Ok (Faulted AddressOutside 2)) ∷ Stepped (Ok Stopped) ∷ Stepped (Ok Stopped) ∷ Stepped (Ok Stopped) ∷ Stepped (Ok Stopped) ∷ Stepped (Ok Stopped) ∷ GivenBack (Err NothingHeld) ∷ Stepped (Ok Stopped) ∷ Stepped (Ok Stopped) ∷ Stepped (Ok Stopped) ∷ Stepped (Ok Stopped) ∷ Stepped (Ok Stopped) ∷ [])
       (finalOf (8 ∷ 8 ∷ []) ([]) 0 Free (entryOf 1 Discarded 2 ∷ entryOf 0 Discarded 2 ∷ entryOf 2 Discarded 2 ∷ []) 2 (lookOf IsStopped 2 (0 ∷ 0 ∷ 0 ∷ 0 ∷ 0 ∷ 0 ∷ 0 ∷ 0 ∷ []) 0 0 0 ∷ lookOf IsStopped 2 (0 ∷ 0 ∷ 0 ∷ 0 ∷ 0 ∷ 0 ∷ 0 ∷ 0 ∷ []) 0 0 0 ∷ lookOf IsStopped 2 (0 ∷ 0 ∷ 0 ∷ 0 ∷ 0 ∷ 0 ∷ 0 ∷ 0 ∷ []) 0 0 0 ∷ []))
   pub run20 :
-      Agrees (engineOf (Begin ∷ Load R2 R0 (imm 1 (lit< tt)) ∷ Store R0 R3 (imm 1 (lit< tt)) ∷ End ∷ Out R2 225 ∷ Store R0 R1 (imm 1 (lit< tt)) ∷ Begin ∷ Load R1 R0 (imm 3 (lit< tt)) ∷ Load R2 R0 (imm 0 (lit< tt)) ∷ End ∷ Jump (imm 0 (lit< tt)) ∷ []) (0 ∷ []) 1 (8 ∷ 5 ∷ []) 4)
+      Agrees (engineOf (Begin ∷ Load R2 R0 (imm 1 (lit< tt)) ∷ Store R0 R3 (imm 1 (lit< tt)) ∷ End ∷ Out R2 (channelOf 225) ∷ Store R0 R1 (imm 1 (lit< tt)) ∷ Begin ∷ Load R1 R0 (imm 3 (lit< tt)) ∷ Load R2 R0 (imm 0 (lit< tt)) ∷ End ∷ Jump (imm 0 (lit< tt)) ∷ []) (0 ∷ []) 1 (8 ∷ 5 ∷ []) 4)
       (Step 0 ∷ Step 0 ∷ Step 0 ∷ Step 0 ∷ Step 0 ∷ Read 1 ∷ Step 0 ∷ Step 0 ∷ Step 0 ∷ Step 0 ∷ Hold ∷ Step 0 ∷ Step 0 ∷ Step 0 ∷ Step 0 ∷ Step 0 ∷ Read 4 ∷ Turn ∷ Step 0 ∷ Step 0 ∷ Step 8 ∷ Turn ∷ Step 0 ∷ GiveBack ∷ Step 0 ∷ Step 0 ∷ Take ∷ Step 0 ∷ Read 3 ∷ Step 0 ∷ [])
-      (Stepped (Ok Running) ∷ Stepped (Ok Running) ∷ Stepped (Ok Running) ∷ Stepped (Ok Committing) ∷ Stepped (Ok Done) ∷ Word (Err NotHeld) ∷ Stepped (Ok Done) ∷ Stepped (Ok Done) ∷ Stepped (Ok Running) ∷ Stepped (Ok (Faulted AddressOutside 7)) ∷ Held (Ok tt) ∷ Stepped (Ok Stopped) ∷ Stepped (Ok Stopped) ∷ Stepped (Ok Stopped) ∷ Stepped (Ok Stopped) ∷ Stepped (Ok Stopped) ∷ Word (Err ReadOutside) ∷ Stepped (Ok Stopped) ∷ Stepped (Ok Stopped) ∷ Stepped (Ok Stopped) ∷ Stepped (Err NoSuchCore) ∷ Stepped (Ok Stopped) ∷ Stepped (Ok Stopped) ∷ GivenBack (Ok tt) ∷ Stepped (Ok Stopped) ∷ Stepped (Ok Stopped) ∷ Taken (Ok (record { channel = 225; word = 5 })) ∷ Stepped (Ok Stopped) ∷ Word (Err NotHeld) ∷ Stepped (Ok Stopped) ∷ [])
+      (Stepped (Ok Running) ∷ Stepped (Ok Running) ∷ Stepped (Ok Running) ∷ Stepped (Ok Committing) ∷ Stepped (Ok Done) ∷ Word (Err NotHeld) ∷ Stepped (Ok Done) ∷ Stepped (Ok Done) ∷ Stepped (Ok Running) ∷ Stepped (Ok (Faulted AddressOutside 7)) ∷ Held (Ok tt) ∷ Stepped (Ok Stopped) ∷ Stepped (Ok Stopped) ∷ Stepped (Ok Stopped) ∷ Stepped (Ok Stopped) ∷ Stepped (Ok Stopped) ∷ Word (Err ReadOutside) ∷ Stepped (Ok Stopped) ∷ Stepped (Ok Stopped) ∷ Stepped (Ok Stopped) ∷ Stepped (Err NoSuchCore) ∷ Stepped (Ok Stopped) ∷ Stepped (Ok Stopped) ∷ GivenBack (Ok tt) ∷ Stepped (Ok Stopped) ∷ Stepped (Ok Stopped) ∷ Taken (Ok (sentWord (channelOf 225) 5)) ∷ Stepped (Ok Stopped) ∷ Word (Err NotHeld) ∷ Stepped (Ok Stopped) ∷ [])
       (finalOf (8 ∷ 0 ∷ []) ([]) 4 Free (entryOf 0 Completed 4 ∷ entryOf 0 Completed 1 ∷ entryOf 0 Completed 1 ∷ entryOf 0 Discarded 1 ∷ []) 0 (lookOf IsStopped 7 (0 ∷ 0 ∷ 5 ∷ 0 ∷ 0 ∷ 0 ∷ 0 ∷ 0 ∷ []) 0 0 0 ∷ []))
   pub run21 :
-      Agrees (engineOf (Begin ∷ Store R0 R1 (imm 0 (lit< tt)) ∷ Out R2 89 ∷ End ∷ Store R0 R1 (imm 0 (lit< tt)) ∷ Store R0 R2 (imm 0 (lit< tt)) ∷ Begin ∷ Set R1 (imm 5 (lit< tt)) ∷ Load R3 R0 (imm 2 (lit< tt)) ∷ Store R0 R1 (imm 1 (lit< tt)) ∷ Store R0 R3 (imm 3 (lit< tt)) ∷ End ∷ Jump (imm 0 (lit< tt)) ∷ []) (0 ∷ 0 ∷ []) 1 (7 ∷ 3 ∷ 0 ∷ []) 0)
+      Agrees (engineOf (Begin ∷ Store R0 R1 (imm 0 (lit< tt)) ∷ Out R2 (channelOf 89) ∷ End ∷ Store R0 R1 (imm 0 (lit< tt)) ∷ Store R0 R2 (imm 0 (lit< tt)) ∷ Begin ∷ Set R1 (imm 5 (lit< tt)) ∷ Load R3 R0 (imm 2 (lit< tt)) ∷ Store R0 R1 (imm 1 (lit< tt)) ∷ Store R0 R3 (imm 3 (lit< tt)) ∷ End ∷ Jump (imm 0 (lit< tt)) ∷ []) (0 ∷ 0 ∷ []) 1 (7 ∷ 3 ∷ 0 ∷ []) 0)
       (Clear ∷ Step 0 ∷ Step 0 ∷ Step 0 ∷ Step 0 ∷ Step 1 ∷ Step 1 ∷ Step 0 ∷ Step 1 ∷ Step 0 ∷ Step 0 ∷ Step 0 ∷ Step 0 ∷ Step 0 ∷ Step 0 ∷ Step 1 ∷ Turn ∷ Step 1 ∷ Hold ∷ Read 3 ∷ Step 1 ∷ Take ∷ Step 1 ∷ Step 1 ∷ Step 0 ∷ Step 0 ∷ Step 0 ∷ Turn ∷ Step 0 ∷ Step 0 ∷ [])
       (Cleared (Ok tt) ∷ Stepped (Ok Running) ∷ Stepped (Ok Running) ∷ Stepped (Ok Early) ∷ Stepped (Ok Early) ∷ Stepped (Ok Running) ∷ Stepped (Ok Running) ∷ Stepped (Ok Full) ∷ Stepped (Ok Waiting) ∷ Stepped (Ok Full) ∷ Stepped (Ok Full) ∷ Stepped (Ok Full) ∷ Stepped (Ok Full) ∷ Stepped (Ok Full) ∷ Stepped (Ok Full) ∷ Stepped (Ok Waiting) ∷ Stepped (Ok Full) ∷ Stepped (Ok Waiting) ∷ Held (Err NotForHost) ∷ Word (Err NotHeld) ∷ Stepped (Ok Waiting) ∷ Taken (Err (record {})) ∷ Stepped (Ok Waiting) ∷ Stepped (Ok Waiting) ∷ Stepped (Ok Full) ∷ Stepped (Ok Full) ∷ Stepped (Ok Full) ∷ Stepped (Ok Waiting) ∷ Stepped (Ok Full) ∷ Stepped (Ok Full) ∷ [])
       (finalOf (0 ∷ 3 ∷ 0 ∷ []) ([]) 0 (CoreHas 0) ([]) 0 (lookOf EarlyCommit 2 (0 ∷ 0 ∷ 0 ∷ 0 ∷ 0 ∷ 0 ∷ 0 ∷ 0 ∷ []) 1 2 0 ∷ lookOf Transaction 2 (0 ∷ 0 ∷ 0 ∷ 0 ∷ 0 ∷ 0 ∷ 0 ∷ 0 ∷ []) 1 2 1 ∷ []))
@@ -185,7 +188,7 @@ pub record Compared : Type 0 where
       (Stepped (Ok Done) ∷ Stepped (Ok Done) ∷ Stepped (Ok Done) ∷ GivenBack (Err NothingHeld) ∷ Stepped (Ok Done) ∷ Stepped (Ok Done) ∷ Stepped (Ok Done) ∷ Stepped (Ok Done) ∷ Stepped (Ok Done) ∷ Stepped (Ok Done) ∷ Stepped (Ok Done) ∷ Stepped (Ok Done) ∷ Stepped (Ok Done) ∷ Stepped (Ok Done) ∷ Stepped (Ok Done) ∷ Stepped (Ok Done) ∷ Stepped (Ok Done) ∷ Stepped (Ok Done) ∷ Stepped (Ok Done) ∷ Stepped (Ok Done) ∷ Stepped (Ok Done) ∷ Stepped (Ok Done) ∷ Stepped (Ok Done) ∷ Stepped (Ok Done) ∷ Stepped (Ok Done) ∷ Stepped (Ok Done) ∷ GivenBack (Err NothingHeld) ∷ Stepped (Ok Done) ∷ Stepped (Ok Done) ∷ Stepped (Ok Done) ∷ [])
       (finalOf (4 ∷ 0 ∷ 0 ∷ []) ([]) 1 Free (entryOf 0 Completed 1 ∷ entryOf 0 Completed 1 ∷ entryOf 0 Completed 1 ∷ entryOf 1 Completed 1 ∷ entryOf 0 Completed 1 ∷ entryOf 0 Completed 1 ∷ entryOf 1 Completed 1 ∷ entryOf 1 Completed 1 ∷ entryOf 0 Completed 1 ∷ entryOf 0 Completed 1 ∷ entryOf 0 Completed 1 ∷ entryOf 0 Completed 1 ∷ entryOf 0 Completed 1 ∷ entryOf 1 Completed 1 ∷ entryOf 1 Completed 1 ∷ entryOf 0 Completed 1 ∷ entryOf 0 Completed 1 ∷ entryOf 1 Completed 1 ∷ entryOf 0 Completed 1 ∷ entryOf 0 Completed 1 ∷ entryOf 0 Completed 1 ∷ entryOf 0 Completed 1 ∷ entryOf 1 Completed 1 ∷ entryOf 1 Completed 1 ∷ entryOf 1 Completed 1 ∷ entryOf 1 Completed 1 ∷ entryOf 1 Completed 1 ∷ entryOf 1 Completed 1 ∷ []) 1 (lookOf Bypass 0 (0 ∷ 0 ∷ 0 ∷ 0 ∷ 0 ∷ 0 ∷ 0 ∷ 0 ∷ []) 0 0 0 ∷ lookOf Bypass 0 (0 ∷ 0 ∷ 0 ∷ 0 ∷ 0 ∷ 0 ∷ 0 ∷ 0 ∷ []) 0 0 0 ∷ []))
   pub run25 :
-      Agrees (engineOf (Out R1 62 ∷ Begin ∷ Store R0 R2 (imm 2 (lit< tt)) ∷ Load R1 R0 (imm 0 (lit< tt)) ∷ End ∷ Jump (imm 0 (lit< tt)) ∷ []) (0 ∷ 0 ∷ []) 2 (0 ∷ 1 ∷ 0 ∷ []) 0)
+      Agrees (engineOf (Out R1 (channelOf 62) ∷ Begin ∷ Store R0 R2 (imm 2 (lit< tt)) ∷ Load R1 R0 (imm 0 (lit< tt)) ∷ End ∷ Jump (imm 0 (lit< tt)) ∷ []) (0 ∷ 0 ∷ []) 2 (0 ∷ 1 ∷ 0 ∷ []) 0)
       (Turn ∷ Hold ∷ Step 0 ∷ Step 0 ∷ Hold ∷ Step 0 ∷ Turn ∷ Step 0 ∷ Step 1 ∷ Step 1 ∷ Step 1 ∷ Step 1 ∷ Turn ∷ Step 1 ∷ Turn ∷ Step 0 ∷ Step 0 ∷ Step 0 ∷ Step 0 ∷ Step 0 ∷ Step 0 ∷ Turn ∷ Step 0 ∷ Take ∷ Step 0 ∷ Step 1 ∷ Step 0 ∷ Step 0 ∷ Step 0 ∷ Step 0 ∷ [])
       (Stepped (Ok Full) ∷ Held (Ok tt) ∷ Stepped (Ok Waiting) ∷ Stepped (Ok Waiting) ∷ Held (Err NotForHost) ∷ Stepped (Ok Waiting) ∷ Stepped (Ok Waiting) ∷ Stepped (Ok Waiting) ∷ Stepped (Ok Waiting) ∷ Stepped (Ok Waiting) ∷ Stepped (Ok Waiting) ∷ Stepped (Ok Waiting) ∷ Stepped (Ok Waiting) ∷ Stepped (Ok Waiting) ∷ Stepped (Ok Waiting) ∷ Stepped (Ok Waiting) ∷ Stepped (Ok Waiting) ∷ Stepped (Ok Waiting) ∷ Stepped (Ok Waiting) ∷ Stepped (Ok Waiting) ∷ Stepped (Ok Waiting) ∷ Stepped (Ok Waiting) ∷ Stepped (Ok Waiting) ∷ Taken (Err (record {})) ∷ Stepped (Ok Waiting) ∷ Stepped (Ok Waiting) ∷ Stepped (Ok Waiting) ∷ Stepped (Ok Waiting) ∷ Stepped (Ok Waiting) ∷ Stepped (Ok Waiting) ∷ [])
       (finalOf (0 ∷ 1 ∷ 0 ∷ []) ([]) 0 Host ([]) 1 (lookOf Bypass 0 (0 ∷ 0 ∷ 0 ∷ 0 ∷ 0 ∷ 0 ∷ 0 ∷ 0 ∷ []) 0 0 0 ∷ lookOf Bypass 0 (0 ∷ 0 ∷ 0 ∷ 0 ∷ 0 ∷ 0 ∷ 0 ∷ 0 ∷ []) 0 0 0 ∷ []))
@@ -200,7 +203,7 @@ pub record Compared : Type 0 where
       (Stepped (Ok Running) ∷ Stepped (Ok Running) ∷ GivenBack (Err NothingHeld) ∷ Stepped (Ok Running) ∷ Stepped (Ok Running) ∷ Stepped (Ok Running) ∷ Stepped (Ok Committing) ∷ Word (Err NotHeld) ∷ Stepped (Ok Done) ∷ Word (Err NotHeld) ∷ Stepped (Ok Running) ∷ Cleared (Ok tt) ∷ Stepped (Ok Running) ∷ Stepped (Ok Running) ∷ Stepped (Ok Running) ∷ Stepped (Ok Running) ∷ Stepped (Ok Running) ∷ Stepped (Ok Running) ∷ Stepped (Ok Running) ∷ Stepped (Ok Running) ∷ Stepped (Ok Running) ∷ Stepped (Ok Committing) ∷ Stepped (Ok Done) ∷ Stepped (Ok Running) ∷ Stepped (Ok Running) ∷ Stepped (Ok RolledBack) ∷ Stepped (Ok Running) ∷ Stepped (Ok Running) ∷ Stepped (Ok Running) ∷ Stepped (Ok Running) ∷ [])
       (finalOf (0 ∷ 9 ∷ 4 ∷ []) ([]) 2 Free (entryOf 2 Completed 6 ∷ []) 2 (lookOf Transaction 8 (0 ∷ 0 ∷ 3 ∷ 0 ∷ 0 ∷ 0 ∷ 0 ∷ 0 ∷ []) 1 2 1 ∷ lookOf Transaction 2 (0 ∷ 0 ∷ 3 ∷ 0 ∷ 0 ∷ 0 ∷ 0 ∷ 0 ∷ []) 1 2 0 ∷ lookOf Transaction 9 (0 ∷ 0 ∷ 3 ∷ 0 ∷ 0 ∷ 0 ∷ 0 ∷ 0 ∷ []) 1 3 1 ∷ []))
   pub run28 :
-      Agrees (engineOf (Begin ∷ Set R2 (imm 2 (lit< tt)) ∷ Load R2 R0 (imm 0 (lit< tt)) ∷ Load R1 R0 (imm 1 (lit< tt)) ∷ Store R0 R1 (imm 0 (lit< tt)) ∷ End ∷ Begin ∷ EarlyToken ∷ Store R0 R0 (imm 1 (lit< tt)) ∷ Load R3 R0 (imm 0 (lit< tt)) ∷ Load R2 R0 (imm 2 (lit< tt)) ∷ End ∷ Store R0 R1 (imm 0 (lit< tt)) ∷ Load R3 R0 (imm 0 (lit< tt)) ∷ Out R0 254 ∷ Load R3 R0 (imm 0 (lit< tt)) ∷ Jump (imm 0 (lit< tt)) ∷ []) (0 ∷ 0 ∷ []) 4 (8 ∷ 1 ∷ []) 3)
+      Agrees (engineOf (Begin ∷ Set R2 (imm 2 (lit< tt)) ∷ Load R2 R0 (imm 0 (lit< tt)) ∷ Load R1 R0 (imm 1 (lit< tt)) ∷ Store R0 R1 (imm 0 (lit< tt)) ∷ End ∷ Begin ∷ EarlyToken ∷ Store R0 R0 (imm 1 (lit< tt)) ∷ Load R3 R0 (imm 0 (lit< tt)) ∷ Load R2 R0 (imm 2 (lit< tt)) ∷ End ∷ Store R0 R1 (imm 0 (lit< tt)) ∷ Load R3 R0 (imm 0 (lit< tt)) ∷ Out R0 (channelOf 254) ∷ Load R3 R0 (imm 0 (lit< tt)) ∷ Jump (imm 0 (lit< tt)) ∷ []) (0 ∷ 0 ∷ []) 4 (8 ∷ 1 ∷ []) 3)
       (Step 0 ∷ Read 3 ∷ Step 0 ∷ Step 0 ∷ Step 0 ∷ Hold ∷ Step 0 ∷ Turn ∷ Step 0 ∷ Step 0 ∷ Step 0 ∷ GiveBack ∷ Step 1 ∷ Step 1 ∷ Step 1 ∷ Step 1 ∷ Step 0 ∷ Step 0 ∷ Step 1 ∷ Clear ∷ Hold ∷ Step 0 ∷ Step 0 ∷ Step 0 ∷ Hold ∷ Step 0 ∷ GiveBack ∷ Step 0 ∷ Step 1 ∷ Step 0 ∷ [])
       (Stepped (Ok Running) ∷ Word (Err NotHeld) ∷ Stepped (Ok Running) ∷ Stepped (Ok Running) ∷ Stepped (Ok Running) ∷ Held (Ok tt) ∷ Stepped (Ok Running) ∷ Stepped (Ok Waiting) ∷ Stepped (Ok Waiting) ∷ Stepped (Ok Waiting) ∷ Stepped (Ok Waiting) ∷ GivenBack (Ok tt) ∷ Stepped (Ok Running) ∷ Stepped (Ok Running) ∷ Stepped (Ok Running) ∷ Stepped (Ok Running) ∷ Stepped (Ok Committing) ∷ Stepped (Ok Done) ∷ Stepped (Ok RolledBack) ∷ Cleared (Ok tt) ∷ Held (Ok tt) ∷ Stepped (Ok Running) ∷ Stepped (Ok Waiting) ∷ Stepped (Ok Waiting) ∷ Held (Err NotForHost) ∷ Stepped (Ok Waiting) ∷ GivenBack (Ok tt) ∷ Stepped (Ok Early) ∷ Stepped (Ok Running) ∷ Stepped (Ok Running) ∷ [])
       (finalOf (1 ∷ 1 ∷ []) ([]) 3 (CoreHas 0) ([]) 1 (lookOf EarlyCommit 8 (0 ∷ 1 ∷ 8 ∷ 0 ∷ 0 ∷ 0 ∷ 0 ∷ 0 ∷ []) 1 2 0 ∷ lookOf Transaction 1 (0 ∷ 0 ∷ 0 ∷ 0 ∷ 0 ∷ 0 ∷ 0 ∷ 0 ∷ []) 1 1 0 ∷ []))
@@ -215,10 +218,10 @@ pub record Compared : Type 0 where
       (Stepped (Ok Running) ∷ Stepped (Ok Running) ∷ Stepped (Ok Early) ∷ Stepped (Ok Retried) ∷ Stepped (Ok Running) ∷ Stepped (Ok Retried) ∷ Stepped (Ok Running) ∷ Stepped (Ok Running) ∷ Stepped (Ok Retried) ∷ Stepped (Ok Running) ∷ Stepped (Ok Retried) ∷ Cleared (Err TokenTaken) ∷ GivenBack (Err NothingHeld) ∷ Stepped (Ok Running) ∷ Stepped (Ok Running) ∷ GivenBack (Err NothingHeld) ∷ Stepped (Ok Done) ∷ Word (Err NotHeld) ∷ Stepped (Ok Running) ∷ Stepped (Ok Retried) ∷ GivenBack (Err NothingHeld) ∷ Stepped (Ok Running) ∷ Stepped (Ok Running) ∷ Stepped (Ok Retried) ∷ Stepped (Ok Running) ∷ Word (Err NotHeld) ∷ Held (Ok tt) ∷ Stepped (Ok Retried) ∷ GivenBack (Ok tt) ∷ Stepped (Ok Running) ∷ [])
       (finalOf (0 ∷ 4 ∷ 7 ∷ []) ([]) 4 Free (entryOf 0 Completed 5 ∷ []) 1 (lookOf Transaction 6 (0 ∷ 0 ∷ 0 ∷ 0 ∷ 0 ∷ 0 ∷ 0 ∷ 0 ∷ []) 1 1 0 ∷ lookOf Transaction 6 (0 ∷ 0 ∷ 0 ∷ 0 ∷ 0 ∷ 0 ∷ 0 ∷ 0 ∷ []) 1 1 0 ∷ []))
   pub run31 :
-      Agrees (engineOf (Begin ∷ Store R1 R3 (imm 0 (lit< tt)) ∷ Out R3 70 ∷ Load R2 R0 (imm 1 (lit< tt)) ∷ EarlyToken ∷ End ∷ Sub R3 R1 R2 ∷ Add R2 R3 R0 ∷ Store R0 R2 (imm 0 (lit< tt)) ∷ Mean R1 R2 R1 ∷ Load R1 R0 (imm 2 (lit< tt)) ∷ Store R0 R2 (imm 1 (lit< tt)) ∷ Jump (imm 0 (lit< tt)) ∷ []) (0 ∷ 0 ∷ 0 ∷ []) 3 (1 ∷ 4 ∷ 5 ∷ []) 3)
+      Agrees (engineOf (Begin ∷ Store R1 R3 (imm 0 (lit< tt)) ∷ Out R3 (channelOf 70) ∷ Load R2 R0 (imm 1 (lit< tt)) ∷ EarlyToken ∷ End ∷ Sub R3 R1 R2 ∷ Add R2 R3 R0 ∷ Store R0 R2 (imm 0 (lit< tt)) ∷ Mean R1 R2 R1 ∷ Load R1 R0 (imm 2 (lit< tt)) ∷ Store R0 R2 (imm 1 (lit< tt)) ∷ Jump (imm 0 (lit< tt)) ∷ []) (0 ∷ 0 ∷ 0 ∷ []) 3 (1 ∷ 4 ∷ 5 ∷ []) 3)
       (Step 0 ∷ Step 2 ∷ Step 2 ∷ Step 2 ∷ Step 1 ∷ Step 1 ∷ Step 2 ∷ Hold ∷ Step 1 ∷ Step 2 ∷ Step 2 ∷ Read 2 ∷ GiveBack ∷ Clear ∷ Turn ∷ Step 2 ∷ Turn ∷ Turn ∷ Step 2 ∷ Step 2 ∷ Step 2 ∷ Step 2 ∷ Step 1 ∷ Step 2 ∷ Step 2 ∷ Hold ∷ Step 1 ∷ Step 0 ∷ Step 0 ∷ Step 0 ∷ [])
       (Stepped (Ok Running) ∷ Stepped (Ok Running) ∷ Stepped (Ok Running) ∷ Stepped (Ok Early) ∷ Stepped (Ok Running) ∷ Stepped (Ok Running) ∷ Stepped (Ok Early) ∷ Held (Err NotForHost) ∷ Stepped (Ok Waiting) ∷ Stepped (Ok Running) ∷ Stepped (Ok Running) ∷ Word (Err NotHeld) ∷ GivenBack (Err NothingHeld) ∷ Cleared (Err TokenTaken) ∷ Stepped (Ok Running) ∷ Stepped (Ok Running) ∷ Stepped (Ok Waiting) ∷ Stepped (Ok Done) ∷ Stepped (Ok Done) ∷ Stepped (Ok Done) ∷ Stepped (Ok Done) ∷ Stepped (Ok Done) ∷ Stepped (Ok Early) ∷ Stepped (Ok Waiting) ∷ Stepped (Ok Waiting) ∷ Held (Err NotForHost) ∷ Stepped (Ok Early) ∷ Stepped (Ok Waiting) ∷ Stepped (Ok Waiting) ∷ Stepped (Ok Waiting) ∷ [])
-      (finalOf (0 ∷ 4 ∷ 5 ∷ []) ((record { channel = 70; word = 0 }) ∷ []) 2 (CoreHas 1) (entryOf 2 Completed 6 ∷ entryOf 2 Completed 1 ∷ entryOf 2 Completed 1 ∷ entryOf 2 Completed 1 ∷ entryOf 2 Completed 1 ∷ []) 0 (lookOf Transaction 2 (0 ∷ 0 ∷ 0 ∷ 0 ∷ 0 ∷ 0 ∷ 0 ∷ 0 ∷ []) 1 2 1 ∷ lookOf EarlyCommit 2 (0 ∷ 0 ∷ 0 ∷ 0 ∷ 0 ∷ 0 ∷ 0 ∷ 0 ∷ []) 1 2 0 ∷ lookOf Bypass 10 (0 ∷ 2147483646 ∷ 4294967292 ∷ 4294967292 ∷ 0 ∷ 0 ∷ 0 ∷ 0 ∷ []) 0 0 0 ∷ []))
+      (finalOf (0 ∷ 4 ∷ 5 ∷ []) (sentWord (channelOf 70) 0 ∷ []) 2 (CoreHas 1) (entryOf 2 Completed 6 ∷ entryOf 2 Completed 1 ∷ entryOf 2 Completed 1 ∷ entryOf 2 Completed 1 ∷ entryOf 2 Completed 1 ∷ []) 0 (lookOf Transaction 2 (0 ∷ 0 ∷ 0 ∷ 0 ∷ 0 ∷ 0 ∷ 0 ∷ 0 ∷ []) 1 2 1 ∷ lookOf EarlyCommit 2 (0 ∷ 0 ∷ 0 ∷ 0 ∷ 0 ∷ 0 ∷ 0 ∷ 0 ∷ []) 1 2 0 ∷ lookOf Bypass 10 (0 ∷ 2147483646 ∷ 4294967292 ∷ 4294967292 ∷ 0 ∷ 0 ∷ 0 ∷ 0 ∷ []) 0 0 0 ∷ []))
   pub run32 :
       Agrees (engineOf (Begin ∷ Store R0 R3 (imm 0 (lit< tt)) ∷ Load R3 R3 (imm 0 (lit< tt)) ∷ End ∷ Jump (imm 0 (lit< tt)) ∷ []) (0 ∷ 0 ∷ 0 ∷ []) 1 (0 ∷ 8 ∷ 1 ∷ []) 0)
       (Turn ∷ Step 0 ∷ Step 0 ∷ GiveBack ∷ Step 0 ∷ Step 0 ∷ Step 0 ∷ Step 0 ∷ GiveBack ∷ Step 0 ∷ Step 0 ∷ Step 0 ∷ Step 1 ∷ Step 2 ∷ Step 2 ∷ Step 2 ∷ Clear ∷ Step 2 ∷ Step 2 ∷ Step 2 ∷ Step 2 ∷ GiveBack ∷ Clear ∷ Step 0 ∷ Step 2 ∷ Clear ∷ Step 2 ∷ Step 2 ∷ Step 1 ∷ Step 1 ∷ [])

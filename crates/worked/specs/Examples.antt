@@ -7,7 +7,7 @@ use mathlib.Core.Path.{_≡_}
 use mathlib.Core.List.{List, [], _∷_, map}
 use lib.Dec.{lit<}
 use Rattle.std.specs.declared.result.Result.the-variants.{Ok}
-use Rattle.formats.specs.declared.immediate.Immediate.{Immediate}
+use Rattle.formats.specs.declared.below.Below.{Below}
 use Rattle.formats.specs.declared.register.Register.the-variants.{R0, R1, R2, R3}
 use Rattle.formats.specs.declared.entry.Mark.{Mark}
 use Rattle.formats.specs.declared.entry.Mark.the-variants.{Completed}
@@ -26,23 +26,23 @@ use Rattle.model.specs.Engine.{Outlet, Engine, make, coreAt}
 use Rattle.model.specs.Runs.{replies, plays}
 
 -- a number in an instruction
-abbrev pub imm : (n : ℕ) → n < 262144 → Immediate
+abbrev pub imm : (n : ℕ) → n < 262144 → Below 262144
 imm n h = record { value = n; fits = h }
 
 -- the number 0
-abbrev pub n0 : Immediate
+abbrev pub n0 : Below 262144
 n0 = imm 0 (lit< tt)
 
 -- the number 1
-abbrev pub n1 : Immediate
+abbrev pub n1 : Below 262144
 n1 = imm 1 (lit< tt)
 
 -- the number 3
-abbrev pub n3 : Immediate
+abbrev pub n3 : Below 262144
 n3 = imm 3 (lit< tt)
 
 -- the number 4
-abbrev pub n4 : Immediate
+abbrev pub n4 : Below 262144
 n4 = imm 4 (lit< tt)
 
 -- an outlet with nothing waiting and room for some

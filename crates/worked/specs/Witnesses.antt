@@ -9,6 +9,8 @@ use mathlib.Core.List.{List, [], _∷_, _++_}
 use mathlib.Core.Option.{Option, none, some}
 use lib.ListN.{take}
 use Rattle.std.specs.declared.result.Result.the-variants.{Ok}
+use Rattle.formats.specs.Belows.{channelOf}
+use Rattle.formats.specs.Sents.{sentWord}
 use Rattle.formats.specs.declared.register.Register.the-variants.{R0, R1}
 use Rattle.formats.specs.declared.entry.SentEntry.{SentEntry}
 use Rattle.formats.specs.declared.entry.Mark.the-variants.{Completed, Discarded, Kept}
@@ -104,11 +106,11 @@ pub record FaultsKept : Type 0 where
 
 -- a word on channel 9
 abbrev pub word9 : SentEntry
-word9 = record { channel = 9; word = 1 }
+word9 = sentWord (channelOf 9) 1
 
 -- an outlet with room for one, a block that sends and a plain sending after it
 abbrev pub sending : Engine
-sending = engineOf (Set R1 n1 ∷ Begin ∷ Out R1 9 ∷ End ∷ Out R1 9 ∷ Halt ∷ []) (0 ∷ []) 1 (5 ∷ []) 1
+sending = engineOf (Set R1 n1 ∷ Begin ∷ Out R1 (channelOf 9) ∷ End ∷ Out R1 (channelOf 9) ∷ Halt ∷ []) (0 ∷ []) 1 (5 ∷ []) 1
 
 -- the second sending waits for room; what was taken and what waits is what the machine sent
 pub record Sends : Type 0 where

@@ -1,12 +1,15 @@
-// The engine's worked examples, and runs in which each law says something: theorems shown by computing the definitions.
+// Worked examples of the formats and of the engine, and runs in which each law says something: theorems shown by computing the definitions.
 ghost use Rattle.worked.specs.Compared.{Compared};
 ghost use Rattle.worked.specs.Examples.{Worked};
+ghost use Rattle.worked.specs.Packed.{Packed};
 ghost use Rattle.worked.specs.Limits.{Limits};
 ghost use Rattle.worked.specs.Witnesses.{Witnesses};
 
-// The worked examples: a mean, a fault, two counters, a block that outgrows its line.
+// The worked examples, together: words and entries packed, programs read or refused; a mean, a fault, two counters, a block
+// that outgrows its line.
 pub fn worked_examples_hold() -> u8
-    ensures { λ _. ⌜ Worked ⌝ }
+    ensures packed { λ _. ⌜ Packed ⌝ }
+    ensures worked { λ _. ⌜ Worked ⌝ }
 {
     0
 }
