@@ -27,6 +27,7 @@ impl Program {
             None
         }
     }
+
     // The instruction at a place, HALT past the last. A jump of it stays below 512, and one that goes on with the next
     // instruction has a next place to go on at.
     pub fn at(&self, pc: usize) -> Instruction

@@ -1,0 +1,3 @@
+// Trials of a single core, step by step.
+#[cfg(test)]
+mod trials;
