@@ -135,7 +135,8 @@ pub impl<F> From<Placed<F>> for ListRefusal<F> as ListRefusalFromPlaced {
     ghost converts = { λ p r. r ≡ Entry p };
 
     fn from(value: Placed<F>) -> ListRefusal<F> {
-        ListRefusal::Entry(value)
+        let Placed { fault, place } = value;
+        ListRefusal::Entry(Placed { fault, place })
     }
 }
 

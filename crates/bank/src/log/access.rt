@@ -39,7 +39,8 @@ impl Log {
         ensures value { λ r. ⌜ r ≡ length (turnsOf (now (self .entry))) ⌝ }
         ensures bound { λ r. ⌜ r ≤ 1024 ⌝ }
     {
-        self.len
+        let filled = self.len;
+        filled
     }
 
     // Adds an entry, if there is one and room for it.

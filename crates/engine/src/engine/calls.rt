@@ -126,7 +126,8 @@ impl<M: Memory, O: Outlet> Engine<M, O> {
     pub fn token(&self) -> Token
         ensures { λ r. ⌜ r ≡ holder (engineOf M·Memory O·Outlet (now (self .entry))) ⌝ }
     {
-        self.token
+        let holder = self.token;
+        holder
     }
 
     // What people see of a core, or None where there is no such core.
@@ -144,10 +145,9 @@ impl<M: Memory, O: Outlet> Engine<M, O> {
     pub fn tags(&self, i: usize, list: &mut [usize]) -> Result<usize, TagsRefusal>
         ensures { λ r. ⌜ Tags (engineOf M·Memory O·Outlet (now (self .entry))) i (now (list .entry)) (now (list .exit)) r ⌝ }
     {
-        if i < self.table.count {
-            self.table.cores[i].tags(list)
-        } else {
-            Err(TagsRefusal::NoSuchCore)
+        if i >= self.table.count {
+            return Err(TagsRefusal::NoSuchCore);
         }
+        self.table.cores[i].tags(list)
     }
 }
