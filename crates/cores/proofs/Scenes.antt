@@ -12,13 +12,13 @@ use Rattle.std.proofs.shelf.Tests.{cases-bool, ltb-true}
 use Rattle.model.specs.declared.place.Place.{Place}
 use Rattle.model.specs.declared.state.State.{State}
 use Rattle.model.specs.declared.state.State.the-variants.{Bypass, Transaction, Commit, Abort, EarlyFlush, EarlyCommit, Stopped}
+use Rattle.model.specs.declared.state.Token.{Token}
 use Rattle.model.specs.Instructions.{Ask, Moves, Loads, Stores, Sends, Begins, Ends, Halts, Retries, Earlies, asks, closing}
 use Rattle.model.specs.Instructions.{Outer, OuterFaults, OuterMoves, OuterLoads, OuterStores, OuterSends, Opens, Stops, outer, outerAt}
 use Rattle.model.specs.Instructions.{Inner, InnerFaults, InnerMoves, InnerLoads, InnerStores, InnerSends, Closes, Restarts, TakesToken, inner, innerAt}
 use Rattle.model.specs.Cores.{Core, View, inBypass, inTransaction, inEarlyCommit, byState, outcome}
-use Rattle.cores.specs.declared.scene.Scene.{Scene}
 use Rattle.cores.specs.Scenes.{overWord}
-use Rattle.cores.specs.Units.{loadedFrom, loadAddress, sceneView}
+use Rattle.cores.specs.Units.{loadedFrom, loadAddress}
 
 -- what it loads stands at the one address, inside the memory
 abbrev InnerFrom : (address words : ℕ) → Inner → Type 0
@@ -134,7 +134,7 @@ module _ (v : View) (c : Core) where
   pub outcome-over : outcome v c ≡ outcome (overWord v (getD (v .memory) (loadAddress (v .program) (c .place)) 0)) c
   outcome-over = by-state (c .state)
 
-  -- and so over a scene that agrees with the view
-  pub outcome-seen : (s : Scene) → v .capacity ≡ s .capacity → length (v .memory) ≡ s .words → getD (v .memory) (loadAddress (v .program) (c .place)) 0 ≡ s .word → v .room ≡ s .room → v .token ≡ s .token → v .self ≡ s .me .value → outcome v c ≡ outcome (sceneView (v .program) s) c
-  outcome-seen s capacity words seen room token self =
-      outcome-over ∙ λ i. outcome (record { program = v .program; capacity = capacity i; memory = replicate (words i) (seen i); room = room i; token = token i; self = self i }) c
+  -- and so over a scene that agrees with the view: the right side is what `sceneView` makes of it
+  pub outcome-seen : {capacity words word room : ℕ} {token : Token} {self : ℕ} → v .capacity ≡ capacity → length (v .memory) ≡ words → getD (v .memory) (loadAddress (v .program) (c .place)) 0 ≡ word → v .room ≡ room → v .token ≡ token → v .self ≡ self → outcome v c ≡ outcome (record { program = v .program; capacity = capacity; memory = replicate words word; room = room; token = token; self = self }) c
+  outcome-seen capacity words word room token self =
+      outcome-over ∙ λ i. outcome (record { program = v .program; capacity = capacity i; memory = replicate (words i) (word i); room = room i; token = token i; self = self i }) c
