@@ -1,14 +1,16 @@
 #!/usr/bin/env bash
 # Code that must not build: a pass let go, dropped, given back twice or forged. Each file of tools/pass-trials is a crate of
-# its own whose first line says whether it builds, or the compiler's error by which it is refused. Run it after the engine is
-# proved (`rt check engine`), since the trials are compiled against it.
+# its own whose first line says whether it builds, or the compiler's error by which it is refused. They are compiled in a copy
+# of the sources, against the engine; what is proved already (target/) is taken over, and else the first trial proves it.
 set -uo pipefail
 cd "$(dirname "$0")/.."
 copy=$(mktemp -d)
 trap 'rm -rf "$copy"' EXIT
 mkdir "$copy/target"
 cp -r crates crates.txt "$copy"
-cp -r target/rlib target/stamp target/log "$copy/target"
+for part in rlib stamp log; do
+  if [ -d "target/$part" ]; then cp -r "target/$part" "$copy/target"; fi
+done
 echo 'attempt: answers formats packed program memory outlet model laws cores bank engine' >> "$copy/crates.txt"
 passed=0
 failed=0
