@@ -14,7 +14,8 @@ impl Program {
     pub fn len(&self) -> usize
         ensures { λ r. ⌜ r ≡ length (instructionsOf (now (self .entry))) ⌝ }
     {
-        self.count
+        let instructions = self.count;
+        instructions
     }
 
     // The instruction at a place, or None past the last.
