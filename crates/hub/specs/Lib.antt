@@ -1,3 +1,4 @@
+pub mod Benches
 pub mod Reasons
 pub mod Told
 pub mod Words

@@ -6,7 +6,7 @@ use lib.Chars.{codes}
 use Rattle.text.specs.declared.number.NumberFault.{NumberFault}
 use Rattle.text.specs.declared.number.NumberFault.the-variants.{NoNumber as NoDigits, TooLarge}
 use Rattle.hub.specs.declared.reason.Reason.{Reason}
-use Rattle.hub.specs.declared.reason.Reason.the-variants.{UnknownCommand, MissingWord, NoNumber, NumberTooLarge, NoBytes, NotFiveBytes, UnknownKind, ExtraWord}
+use Rattle.hub.specs.declared.reason.Reason.the-variants.{UnknownCommand, MissingWord, NoNumber, NumberTooLarge, NoBytes, NotFiveBytes, UnknownKind, ExtraWord, NoProgram, NoEngine}
 
 -- the words after "-> not understood: "
 abbrev pub reasonText : Reason → List ℕ
@@ -18,6 +18,8 @@ reasonText NoBytes = codes "no bytes"
 reasonText NotFiveBytes = codes "not five bytes"
 reasonText UnknownKind = codes "unknown kind"
 reasonText ExtraWord = codes "extra word"
+reasonText NoProgram = codes "no program"
+reasonText NoEngine = codes "no engine"
 
 -- why a token is not taken for a number
 abbrev pub numberReason : NumberFault → Reason

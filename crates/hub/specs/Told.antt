@@ -1,4 +1,4 @@
--- What the console tells of a packed entry, and of a program that was read.
+-- What the console tells of a packed entry, of a program that was read, of an engine that was made and of a step.
 -- Assumes nothing.
 use mathlib.Core.List.{List, _++_}
 use Prim.Native.Nat.{ℕ}
@@ -10,6 +10,7 @@ use Rattle.std.specs.declared.option.Option.the-variants.{Some}
 use Rattle.std.specs.declared.convert.Infallible.{Infallible}
 use Rattle.std.specs.declared.result.Result.{Result}
 use Rattle.std.specs.declared.result.Result.the-variants.{Ok, Err}
+use Rattle.answers.specs.declared.answer.Answer.{Answer}
 use Rattle.answers.specs.declared.refusal.InstructionFault.{InstructionFault}
 use Rattle.answers.specs.declared.refusal.EntryFault.{EntryFault}
 use Rattle.answers.specs.declared.refusal.ListRefusal.{ListRefusal}
@@ -23,6 +24,10 @@ use Rattle.formats.specs.Instructions.{instructionBytes, bytesInstruction}
 use Rattle.formats.specs.Records.{recordBytes, bytesRecord}
 use Rattle.formats.specs.Sents.{sentBytes, bytesSent}
 use Rattle.packed.specs.List.{entryAt}
+use Rattle.model.specs.declared.refusal.StepRefusal.{StepRefusal}
+use Rattle.model.specs.declared.refusal.CheckRefusal.{CheckRefusal}
+use Rattle.model.specs.Refusals.{checkNumber, stepNumber}
+use Rattle.text.specs.Machines.{answerText}
 use Rattle.text.specs.Texts.{hexText, instructionText, recordText, sentText, refusedText, refusedAtText}
 use Rattle.hub.specs.declared.kind.Kind.{Kind}
 use Rattle.hub.specs.declared.kind.Kind.the-variants.{Instruction as OfInstruction, Entry as OfEntry, Sent as OfSent}
@@ -37,15 +42,29 @@ abbrev pub instructionTold : Result Instruction (ListRefusal InstructionFault) �
 instructionTold (Ok i) = instructionText i ++ (codes " = 0x" ++ hexText (instructionBytes i))
 instructionTold (Err r) = refusedInstruction r
 
+-- a record entry: its text and its packed form
+abbrev pub entryTold : RecordEntry → List ℕ
+entryTold e = recordText e ++ (codes " = 0x" ++ hexText (recordBytes e))
+
 -- a record entry, or the refusal
 abbrev pub recordTold : Result RecordEntry (ListRefusal EntryFault) → List ℕ
-recordTold (Ok e) = recordText e ++ (codes " = 0x" ++ hexText (recordBytes e))
+recordTold (Ok e) = entryTold e
 recordTold (Err r) = refusedText (listNumber entryNumber r)
 
 -- an outlet entry, or the refusal
 abbrev pub sentTold : Result SentEntry (ListRefusal Infallible) → List ℕ
 sentTold (Ok e) = sentText e ++ (codes " = " ++ hexText (sentBytes e))
 sentTold (Err r) = refusedText 16
+
+-- what a step or a turn answered
+abbrev pub movedTold : Result Answer StepRefusal → List ℕ
+movedTold (Ok a) = answerText a
+movedTold (Err r) = refusedText (stepNumber r)
+
+-- how many cores a new engine has, or why it has none
+abbrev pub madeTold : Result (Unit {0}) CheckRefusal → ℕ → List ℕ
+madeTold (Ok x) count = codes "cores " ++ decimal count
+madeTold (Err r) count = refusedText (checkNumber r) ++ codes " cores 0"
 
 -- how many bytes an entry of a kind has
 abbrev pub kindBytes : Kind → ℕ

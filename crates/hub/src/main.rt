@@ -1,61 +1,25 @@
 // The console: plays scenarios from standard input, or from the files named as arguments.
+mod bench;
+mod bench_commands;
 mod command;
 mod console;
+mod engine_command;
 mod kind;
 mod packed_commands;
 mod reason;
+mod scenario;
+mod set_up;
 mod tell;
 mod words;
 
-use crate::console::Console;
+use crate::scenario::Scenario;
 use std::env::Unfilled;
 use std::fs::File;
 use std::io;
-use std::io::BufRead;
-use std::io::BufReader;
-use std::io::Read;
-use std::io::Write;
 use std::rt::Env;
 
 // The longest argument that is taken for a file's name.
 const LONGEST: usize = 4096;
-
-// Output is written at the latest when this much has come together.
-const ENOUGH: usize = 65536;
-
-// Writes what has come together.
-fn write_out(rt: &LibcRuntime, out: &mut Vec<u8>) -> io::Result<()> {
-    rt.stdout().write_all(out.as_slice())?;
-    out.clear();
-    Ok(())
-}
-
-// Plays one scenario from its beginning. The inner Err is a failed read, which ends it.
-fn play<R: Read + Drop>(rt: &LibcRuntime, source: R) -> io::Result<io::Result<()>> {
-    let heap = rt.alloc();
-    let mut reader = BufReader::new(source);
-    let mut console = Console::new();
-    let mut line = Vec::new(heap);
-    let mut out = Vec::new(heap);
-    let mut end = Ok(());
-    for _ in 0..u64::MAX {
-        line.clear();
-        match reader.read_until(b'\n', &mut line) {
-            Ok(0) => break,
-            Ok(_) => {}
-            Err(e) => {
-                end = Err(e);
-                break;
-            }
-        }
-        console.play_line(heap, line.as_slice(), &mut out)?;
-        if out.len() >= ENOUGH || reader.buffer().is_empty() {
-            write_out(rt, &mut out)?;
-        }
-    }
-    write_out(rt, &mut out)?;
-    Ok(end)
-}
 
 // Reports a scenario that could not be read, or not to its end.
 fn report(rt: &LibcRuntime, name: &str, end: io::Result<()>) -> io::Result<()> {
@@ -72,7 +36,7 @@ fn play_file(rt: &LibcRuntime, name: &[u8]) -> io::Result<()> {
         return eprintln!(rt, "hub: {shown}: the name is no UTF-8");
     };
     let end = match File::open(rt, path) {
-        Ok(file) => play(rt, file)?,
+        Ok(file) => Scenario::play(rt, file)?,
         Err(e) => Err(e),
     };
     report(rt, path, end)
@@ -91,7 +55,7 @@ fn play_argument(rt: &LibcRuntime, i: usize) -> io::Result<bool> {
 
 fn main(rt: LibcRuntime) -> io::Result<()> {
     if !play_argument(&rt, 1)? {
-        let end = play(&rt, rt.stdin())?;
+        let end = Scenario::play(&rt, rt.stdin())?;
         return report(&rt, "standard input", end);
     }
     for i in 2..usize::MAX {

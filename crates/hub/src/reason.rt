@@ -2,6 +2,7 @@
 ghost use mathlib.Core.Path.{_≡_};
 ghost use Rattle.hub.specs.Reasons.{reasonText, numberReason};
 use std::alloc::AllocError;
+use std::alloc::Refused;
 use text::number::NumberFault;
 
 #[derive(Clone, Copy, PartialEq, Eq, Debug)]
@@ -14,6 +15,8 @@ pub enum Reason {
     NotFiveBytes,
     UnknownKind,
     ExtraWord,
+    NoProgram,
+    NoEngine,
 }
 
 impl Reason {
@@ -30,6 +33,8 @@ impl Reason {
             Reason::NotFiveBytes => "not five bytes",
             Reason::UnknownKind => "unknown kind",
             Reason::ExtraWord => "extra word",
+            Reason::NoProgram => "no program",
+            Reason::NoEngine => "no engine",
         }
     }
 }
@@ -60,6 +65,12 @@ pub impl From<Reason> for ParseError as ParseErrorFromReason {
 
 pub impl From<AllocError> for ParseError as ParseErrorFromAllocError {
     fn from(_error: AllocError) -> ParseError {
+        ParseError::NoMemory
+    }
+}
+
+pub impl<T: Drop> From<Refused<T>> for ParseError as ParseErrorFromRefused {
+    fn from(_refused: Refused<T>) -> ParseError {
         ParseError::NoMemory
     }
 }

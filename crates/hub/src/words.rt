@@ -7,12 +7,16 @@ ghost use Rattle.text.specs.Lines.{nextToken};
 ghost use Rattle.hub.specs.Words.{firstOf, restOf, endOf};
 use crate::reason::ParseError;
 use crate::reason::ParseErrorFromAllocError;
+use crate::reason::ParseErrorFromRefused;
 use crate::reason::Reason;
 use crate::reason::ReasonFromNumberFault;
 use std::alloc::Global;
 use text::bytes::read_bytes;
 use text::line::next_token;
 use text::number::read_number;
+
+// The most steps, turns, bytes or places that one command asks for.
+const MOST_TIMES: u32 = 65_536;
 
 #[derive(Drop)]
 pub struct Words<'a> {
@@ -44,6 +48,28 @@ impl<'a> Words<'a> {
     pub fn number(&mut self) -> Result<u32, Reason> {
         let word = self.word()?;
         Ok(read_number(word)?)
+    }
+
+    // How many steps, turns, bytes or places a command asks for.
+    pub fn times(&mut self) -> Result<usize, Reason> {
+        let number = self.number()?;
+        if number > MOST_TIMES {
+            return Err(Reason::NumberTooLarge);
+        }
+        Ok(number as usize)
+    }
+
+    // The words that are left, as numbers.
+    pub fn numbers(&mut self, heap: Global) -> Result<Vec<u32>, ParseError> {
+        let mut numbers = Vec::new(heap);
+        while let Some(word) = self.next() {
+            let number = match read_number(word) {
+                Ok(number) => number,
+                Err(fault) => return Err(ParseError::NotUnderstood(fault.into())),
+            };
+            numbers.push(number)?;
+        }
+        Ok(numbers)
     }
 
     pub fn bytes(&mut self, heap: Global) -> Result<Vec<u8>, ParseError> {

@@ -1,3 +1,4 @@
 pub mod Lines
 pub mod Numbers
 pub mod Texts
+pub mod Machines

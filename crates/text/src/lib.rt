@@ -3,6 +3,7 @@ pub mod bytes;
 mod digit;
 pub mod hex;
 pub mod line;
+pub mod machine;
 pub mod number;
 pub mod refused;
 pub mod show;

@@ -16,3 +16,6 @@ returns-in-NumberTooLarge c = sym (ap reasonText (c .in-NumberTooLarge .is))
 
 pub returns-in-NotFiveBytes : need.returns-in-NotFiveBytes
 returns-in-NotFiveBytes c = sym (ap reasonText (c .in-NotFiveBytes .is))
+
+pub returns-in-NoProgram : need.returns-in-NoProgram
+returns-in-NoProgram c = sym (ap reasonText (c .in-NoProgram .is))
