@@ -10,11 +10,12 @@ use outlet::waiting::Outlet;
 use program::program::Program;
 
 mod calls;
-mod making;
+pub mod making;
 mod moving;
 mod stepping;
 
 // The host changes an engine only by its calls.
+#[derive(Drop)]
 pub struct Engine<M: Memory, O: Outlet> {
     program: Program,
     capacity: usize,
