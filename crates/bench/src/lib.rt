@@ -1,4 +1,5 @@
 // A packed list of calls played on a new engine over byte slices, for callers in Rust and C.
 pub mod call;
 pub mod desk;
+pub mod play;
 pub mod reply;
