@@ -11,8 +11,8 @@ use Rattle.std.proofs.shelf.Lists.{take-more}
 use Rattle.std.proofs.shelf.Tests.{cases-lt}
 use Rattle.std.specs.declared.result.Result.{Result}
 use Rattle.std.specs.declared.result.Result.the-variants.{Ok, Err}
-use Rattle.memory.specs.Bytes.{wordsIn, wordFrom, pasted}
-use Rattle.memory.proofs.Quads.{words-length, word-at}
+use Rattle.memory.specs.Bytes.{wordsIn, pasted}
+use Rattle.memory.proofs.Quads.{words-length}
 use Rattle.model.specs.declared.call.Call.{Call}
 use Rattle.model.specs.declared.call.Reply.{Reply}
 use Rattle.model.specs.declared.call.Reply.the-variants.{Stepped, Cleared, Held, Word, GivenBack, Taken}
@@ -85,8 +85,8 @@ unfolding afters
 sofar-none start ws olds = record { engine = refl; filled = refl }
 
 -- one more
-pub sofar-more : (start now next : Engine) (ws olds news bytes : List ℕ) (i w : ℕ) → i < length ws → w ≡ getD ws i 0 → next ≡ after now (callOf w) → bytes ≡ answered now (callOf w) → Sofar start ws olds i now news → Sofar start ws olds (i + 1) next (pasted news (8 * i) bytes)
-sofar-more start now next ws olds news bytes i w h at acts answers s =
+pub sofar-more : (start now next : Engine) (ws olds news later bytes : List ℕ) (i w : ℕ) → i < length ws → w ≡ getD ws i 0 → next ≡ after now (callOf w) → bytes ≡ answered now (callOf w) → later ≡ pasted news (8 * i) bytes → Sofar start ws olds i now news → Sofar start ws olds (i + 1) next later
+sofar-more start now next ws olds news later bytes i w h at acts answers put s =
     let more : take (i + 1) ws ≡ take i ws ++ (w ∷ []) = take-more ws i 0 h ∙ ap (λ x. take i ws ++ (x ∷ [])) (sym at) in
     let front = answersOf start (take i ws) in
     let long : length front ≡ 8 * i = answers-length start (take i ws) ∙ ap (λ n. 8 * n) (length-take-le i ws (omega arith)) in
@@ -94,16 +94,30 @@ sofar-more start now next ws olds news bytes i w h at acts answers s =
     let eight : length bytes ≡ 8 = ap length answers ∙ answered-eight now (callOf w) in
     record {
       engine = acts ∙ ap (λ e. after e (callOf w)) (s .engine) ∙ sym (ap (afters start) more ∙ afters-push start (take i ws) w);
-      filled = ap (λ l. pasted l (8 * i) bytes) (s .filled)
+      filled = put ∙ ap (λ l. pasted l (8 * i) bytes) (s .filled)
           ∙ put-next front bytes olds (8 * i) long eight
           ∙ ap (λ l. (front ++ l) ++ drop (8 * i + 8) olds) said
           ∙ ap (λ l. l ++ drop (8 * i + 8) olds) (sym (ap (answersOf start) more ∙ answers-push start (take i ws) w))
           ∙ ap (λ n. answersOf start (take (i + 1) ws) ++ drop n olds) (omega arith);
     }
 
--- the words that are played, once as many as fit are
-pub all-words : (calls olds : List ℕ) (i : ℕ) → i ≡ min (length calls / 4) (length olds / 8) → take i (wordsIn calls) ≡ wordsPlayed calls olds
-all-words calls olds i at = fronts (cases-lt (length olds / 8) (length (wordsIn calls)))
+-- all that are to be played
+pub record All (start : Engine) (calls olds : List ℕ) (i : ℕ) (news : List ℕ) : Type 0 where
+  pub count : length (wordsPlayed calls olds) ≡ i
+  pub filled : news ≡ answersLeft start (wordsPlayed calls olds) olds
+
+pub sofar-all : (made start now : Engine) (calls olds news : List ℕ) (i : ℕ) → i ≡ min (length calls / 4) (length olds / 8) → start ≡ made → Sofar start (wordsIn calls) olds i now news → All made calls olds i news
+sofar-all made start now calls olds news i at new s =
+    let n = words-length calls in
+    let front : take i (wordsIn calls) ≡ wordsPlayed calls olds = fronts (cases-lt (length olds / 8) (length (wordsIn calls))) in
+    let long : length (wordsPlayed calls olds) ≡ i = sym (ap length front) ∙ length-take-le i (wordsIn calls) (omega arith) in
+    record {
+      count = long;
+      filled = s .filled
+          ∙ ap (λ l. answersOf start l ++ drop (8 * i) olds) front
+          ∙ ap (λ k. answersOf start (wordsPlayed calls olds) ++ drop (8 * k) olds) (sym long)
+          ∙ ap (λ e. answersLeft e (wordsPlayed calls olds) olds) new;
+    }
   where
     fronts : (length olds / 8 < length (wordsIn calls)) ⊎ (length (wordsIn calls) ≤ length olds / 8) → take i (wordsIn calls) ≡ wordsPlayed calls olds
     fronts (inl h) = let n = words-length calls in ap (λ k. take k (wordsIn calls)) (omega arith)

@@ -1,3 +1,4 @@
 pub mod Calls
 pub mod Playing
 pub mod Replies
+pub mod Settings

@@ -3,3 +3,4 @@ pub mod call;
 pub mod desk;
 pub mod play;
 pub mod reply;
+pub mod settings;
