@@ -9,6 +9,7 @@ ghost use Rattle.bench.specs.Settings.{pairsIn, linesIn, placesIn};
 const TOO_MANY: usize = 9;
 
 // Lines and entry places. Of more than nine entry places only nine are kept: as many are refused already.
+#[derive(Clone, Copy)]
 pub struct Settings {
     lines: usize,
     places: [usize; TOO_MANY],
