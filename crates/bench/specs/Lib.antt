@@ -1,0 +1,5 @@
+pub mod Calls
+pub mod Export
+pub mod Playing
+pub mod Replies
+pub mod Settings

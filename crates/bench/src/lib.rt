@@ -1,0 +1,7 @@
+// A packed list of calls played on a new engine over byte slices, for callers in Rust and C.
+pub mod call;
+pub mod desk;
+pub mod export;
+pub mod play;
+pub mod reply;
+pub mod settings;
