@@ -1,18 +1,13 @@
--- While the host has the token, no step and no turn takes it.
---   step-fits, turn-fits   a pass that fits an engine's token fits it after a step and after a turn
+-- Whether the host has the token is the same before and after a step or a turn.
 -- Assumes nothing.
 use Prim.Native.Nat.{ℕ, _+_}
 use mathlib.Core.Path.{_≡_, refl, ap, sym, _∙_}
 use mathlib.Core.Bool.{Bool, true, false, cond}
-use mathlib.Core.List.{List}
-use lib.Dec.{ltb, leb}
+use lib.Dec.{ltb, leb, eqb}
 use lib.ListN.{length}
-use Rattle.std.specs.declared.option.Option.{Option}
-use Rattle.std.specs.declared.option.Option.the-variants.{Some, None}
 use Rattle.std.specs.declared.result.Result.{Result}
 use Rattle.std.specs.declared.result.Result.the-variants.{Ok, Err}
 use Rattle.std.proofs.shelf.Tests.{cond-both}
-use Rattle.formats.specs.declared.instruction.Instruction.{Instruction}
 use Rattle.answers.specs.declared.answer.Answer.{Answer}
 use Rattle.model.specs.declared.refusal.StepRefusal.{StepRefusal}
 use Rattle.model.specs.declared.refusal.StepRefusal.the-variants.{NoSuchCore, RecordFull}
@@ -23,91 +18,90 @@ use Rattle.model.specs.declared.state.Token.the-variants.{Free, Core as CoreHas
 use Rattle.model.specs.Instructions.{Outer, OuterFaults, OuterMoves, OuterLoads, OuterStores, OuterSends, Opens, Stops, outerAt}
 use Rattle.model.specs.Instructions.{Inner, InnerFaults, InnerMoves, InnerLoads, InnerStores, InnerSends, Closes, Restarts, TakesToken}
 use Rattle.model.specs.Lines.{holds, anyDirty, left}
-use Rattle.model.specs.Cores.{Core, View, Outcome, outcome, byState, inBypass, inTransaction, inEarlyCommit, innerOf}
+use Rattle.model.specs.Cores.{Core, View, Outcome, outcome, ifFree, freed, early, byState, inBypass, inTransaction, inEarlyCommit, innerOf}
 use Rattle.model.specs.Engine.{Engine, coreAt, viewOf}
 use Rattle.model.specs.Calls.{After, stays, stepped, step, wanted, advanced, turn}
-use Rattle.engine.specs.declared.pass.Pass.{Pass}
 use Rattle.engine.specs.Engines.{hostHas}
-use Rattle.hub.specs.Benches.{passFits}
 
 -- what a step sees while someone has the token
 abbrev seen : Engine → ℕ → Token → View
 seen e i t = record { program = e .program; capacity = e .capacity; memory = e .memory; room = e .outlet .room; token = t; self = i }
 
-abbrev Held : Outcome → Type 0
-Held o = o .token ≡ Host
+-- an outcome after which the host has the token exactly if it had it before
+abbrev Same : Token → Outcome → Type 0
+Same t o = hostHas (o .token) ≡ hostHas t
 
-either : (b : Bool) (x y : Outcome) → Held x → Held y → Held (cond b x y)
-either b x y p q = cond-both b x y Held (λ _. p) (λ _. q)
+either : (t : Token) (b : Bool) (x y : Outcome) → Same t x → Same t y → Same t (cond b x y)
+either t b x y p q = cond-both b x y (Same t) (λ _. p) (λ _. q)
 
-bypass-held : (e : Engine) (i : ℕ) (c : Core) (o : Outer) → Held (inBypass (seen e i Host) c o)
-bypass-held e i c (OuterFaults f) = refl
-bypass-held e i c (OuterMoves p) = refl
-bypass-held e i c (OuterLoads a k) = refl
-bypass-held e i c (OuterStores a w) = refl
-bypass-held e i c (OuterSends s) = refl
-bypass-held e i c Opens = refl
-bypass-held e i c Stops = refl
+by-token : (t : Token) (x y : Outcome) → (t ≡ Free → Same t x) → Same t y → Same t (ifFree t x y)
+by-token Free x y p q = p refl
+by-token (CoreHas k) x y p q = q
+by-token Host x y p q = q
 
-transaction-held : (e : Engine) (i : ℕ) (c : Core) (n : Inner) → Held (inTransaction (seen e i Host) c n)
-transaction-held e i c (InnerFaults f) = refl
-transaction-held e i c (InnerMoves p d) = refl
-transaction-held e i c (InnerLoads a k) = either (holds (c .lines) a) _ _ refl (either (ltb (length (c .lines)) (e .capacity)) _ _ refl refl)
-transaction-held e i c (InnerStores a w) = either (holds (c .lines) a) _ _ refl (either (ltb (length (c .lines)) (e .capacity)) _ _ refl refl)
-transaction-held e i c (InnerSends s) = refl
-transaction-held e i c Closes = refl
-transaction-held e i c Restarts = refl
-transaction-held e i c TakesToken = refl
+no-host : (b : Bool) (k : ℕ) → hostHas (cond b Free (CoreHas k)) ≡ false
+no-host true k = refl
+no-host false k = refl
 
-early-held : (e : Engine) (i : ℕ) (c : Core) (n : Inner) → Held (inEarlyCommit (seen e i Host) c n)
-early-held e i c (InnerFaults f) = refl
-early-held e i c (InnerMoves p d) = refl
-early-held e i c (InnerLoads a k) = refl
-early-held e i c (InnerStores a w) = refl
-early-held e i c (InnerSends s) = either (ltb 0 (e .outlet .room)) _ _ refl refl
-early-held e i c Closes = refl
-early-held e i c Restarts = refl
-early-held e i c TakesToken = refl
+freed-same : (t : Token) (i : ℕ) → hostHas (freed t i) ≡ hostHas t
+freed-same Free i = refl
+freed-same (CoreHas k) i = no-host (eqb k i) k
+freed-same Host i = refl
 
-by-state-held : (s : State) (e : Engine) (i : ℕ) (c : Core) → Held (byState s (seen e i Host) c)
-by-state-held Bypass e i c = bypass-held e i c (outerAt (e .program) (length (e .memory)) (c .place))
-by-state-held Transaction e i c = transaction-held e i c (innerOf (seen e i Host) c)
-by-state-held Commit e i c = either (anyDirty (left (c .lines))) _ _ refl refl
-by-state-held Abort e i c = refl
-by-state-held EarlyFlush e i c = either (anyDirty (left (c .lines))) _ _ refl refl
-by-state-held EarlyCommit e i c = early-held e i c (innerOf (seen e i Host) c)
-by-state-held Stopped e i c = refl
+bypass-same : (e : Engine) (i : ℕ) (t : Token) (c : Core) (o : Outer) → Same t (inBypass (seen e i t) c o)
+bypass-same e i t c (OuterFaults f) = freed-same t i
+bypass-same e i t c (OuterMoves p) = freed-same t i
+bypass-same e i t c (OuterLoads a k) = by-token t _ _ (λ _. freed-same t i) refl
+bypass-same e i t c (OuterStores a w) = by-token t _ _ (λ _. freed-same t i) refl
+bypass-same e i t c (OuterSends s) = by-token t _ _ (λ _. either t (ltb 0 (e .outlet .room)) _ _ (freed-same t i) refl) refl
+bypass-same e i t c Opens = refl
+bypass-same e i t c Stops = freed-same t i
 
-outcome-held : (e : Engine) (i : ℕ) (c : Core) → e .token ≡ Host → outcome (viewOf e i) c .token ≡ Host
-outcome-held e i c h = ap (λ t. outcome (seen e i t) c .token) h ∙ by-state-held (c .state) e i c
+early-same : (e : Engine) (i : ℕ) (t : Token) (c : Core) → Same t (early (seen e i t) c)
+early-same e i t c = by-token t _ _ (λ h. sym (ap hostHas h)) refl
 
--- a call that leaves the token with the host
-abbrev Left : After (Result Answer StepRefusal) → Type 0
-Left a = a .engine .token ≡ Host
+transaction-same : (e : Engine) (i : ℕ) (t : Token) (c : Core) (n : Inner) → Same t (inTransaction (seen e i t) c n)
+transaction-same e i t c (InnerFaults f) = by-token t _ _ (λ _. freed-same t i) refl
+transaction-same e i t c (InnerMoves p d) = refl
+transaction-same e i t c (InnerLoads a k) = either t (holds (c .lines) a) _ _ refl (either t (ltb (length (c .lines)) (e .capacity)) _ _ refl (early-same e i t c))
+transaction-same e i t c (InnerStores a w) = either t (holds (c .lines) a) _ _ refl (either t (ltb (length (c .lines)) (e .capacity)) _ _ refl (early-same e i t c))
+transaction-same e i t c (InnerSends s) = early-same e i t c
+transaction-same e i t c Closes = by-token t _ _ (λ h. either t (anyDirty (c .lines)) _ _ (sym (ap hostHas h)) (freed-same t i)) refl
+transaction-same e i t c Restarts = refl
+transaction-same e i t c TakesToken = early-same e i t c
 
-step-held : (e : Engine) (i : ℕ) → e .token ≡ Host → step e i .engine .token ≡ Host
-step-held e i h =
-    cond-both (ltb i (length (e .cores))) _ (stays e (Err NoSuchCore)) Left
-    (λ _. cond-both (leb (length (e .entries) + wanted (e .token) i) 1024) (stepped e i) (stays e (Err RecordFull)) Left (λ _. outcome-held e i (coreAt e i) h) (λ _. h))
-    (λ _. h)
+early-commit-same : (e : Engine) (i : ℕ) (t : Token) (c : Core) (n : Inner) → Same t (inEarlyCommit (seen e i t) c n)
+early-commit-same e i t c (InnerFaults f) = freed-same t i
+early-commit-same e i t c (InnerMoves p d) = refl
+early-commit-same e i t c (InnerLoads a k) = refl
+early-commit-same e i t c (InnerStores a w) = refl
+early-commit-same e i t c (InnerSends s) = either t (ltb 0 (e .outlet .room)) _ _ refl refl
+early-commit-same e i t c Closes = freed-same t i
+early-commit-same e i t c Restarts = freed-same t i
+early-commit-same e i t c TakesToken = refl
+
+by-state-same : (s : State) (e : Engine) (i : ℕ) (t : Token) (c : Core) → Same t (byState s (seen e i t) c)
+by-state-same Bypass e i t c = bypass-same e i t c (outerAt (e .program) (length (e .memory)) (c .place))
+by-state-same Transaction e i t c = transaction-same e i t c (innerOf (seen e i t) c)
+by-state-same Commit e i t c = either t (anyDirty (left (c .lines))) _ _ refl (freed-same t i)
+by-state-same Abort e i t c = refl
+by-state-same EarlyFlush e i t c = either t (anyDirty (left (c .lines))) _ _ refl refl
+by-state-same EarlyCommit e i t c = early-commit-same e i t c (innerOf (seen e i t) c)
+by-state-same Stopped e i t c = refl
+
+-- a call after which the host has the token exactly if it had it before
+abbrev Kept : Engine → After (Result Answer StepRefusal) → Type 0
+Kept e a = hostHas (a .engine .token) ≡ hostHas (e .token)
+
+pub step-same : (e : Engine) (i : ℕ) → hostHas (step e i .engine .token) ≡ hostHas (e .token)
+step-same e i =
+    cond-both (ltb i (length (e .cores))) _ (stays e (Err NoSuchCore)) (Kept e)
+    (λ _. cond-both (leb (length (e .entries) + wanted (e .token) i) 1024) (stepped e i) (stays e (Err RecordFull)) (Kept e) (λ _. by-state-same (coreAt e i .state) e i (e .token) (coreAt e i)) (λ _. refl))
+    (λ _. refl)
 
 advanced-token : (r : Result Answer StepRefusal) (e : Engine) → advanced r e .token ≡ e .token
 advanced-token (Ok a) e = refl
 advanced-token (Err x) e = refl
 
-turn-held : (e : Engine) → e .token ≡ Host → turn e .engine .token ≡ Host
-turn-held e h = advanced-token (step e (e .next) .answer) (step e (e .next) .engine) ∙ step-held e (e .next) h
-
--- the token that the host has is the host's
-is-host : (t : Token) → hostHas t ≡ true → t ≡ Host
-is-host Free h = let z : _≡_ {A = Token} Free Host = cc in z
-is-host (CoreHas k) h = let z : _≡_ {A = Token} (CoreHas k) Host = cc in z
-is-host Host h = refl
-
-pub step-fits : (p : Option Pass) (e : Engine) (i : ℕ) → passFits p (e .token) ≡ true → passFits p (step e i .engine .token) ≡ true
-step-fits None e i h = refl
-step-fits (Some p) e i h = ap hostHas (step-held e i (is-host (e .token) h))
-
-pub turn-fits : (p : Option Pass) (e : Engine) → passFits p (e .token) ≡ true → passFits p (turn e .engine .token) ≡ true
-turn-fits None e h = refl
-turn-fits (Some p) e h = ap hostHas (turn-held e (is-host (e .token) h))
+pub turn-same : (e : Engine) → hostHas (turn e .engine .token) ≡ hostHas (e .token)
+turn-same e = ap hostHas (advanced-token (step e (e .next) .answer) (step e (e .next) .engine)) ∙ step-same e (e .next)

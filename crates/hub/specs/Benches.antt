@@ -1,13 +1,14 @@
--- The host's pass beside an engine.
+-- A move that the console asks for, on an engine.
 -- Assumes nothing.
-use mathlib.Core.Bool.{Bool, true}
-use Rattle.std.specs.declared.option.Option.{Option}
-use Rattle.std.specs.declared.option.Option.the-variants.{Some, None}
-use Rattle.model.specs.declared.state.Token.{Token}
-use Rattle.engine.specs.declared.pass.Pass.{Pass}
-use Rattle.engine.specs.Engines.{hostHas}
+use Rattle.std.specs.declared.result.Result.{Result}
+use Rattle.answers.specs.declared.answer.Answer.{Answer}
+use Rattle.model.specs.declared.refusal.StepRefusal.{StepRefusal}
+use Rattle.model.specs.Engine.{Engine}
+use Rattle.model.specs.Calls.{After, step, turn}
+use Rattle.hub.specs.declared.«engine_command».Move.{Move}
+use Rattle.hub.specs.declared.«engine_command».Move.the-variants.{Step, Turn}
 
--- where there is a pass, the host has the token
-abbrev pub passFits : Option Pass → Token → Bool
-passFits None t = true
-passFits (Some p) t = hostHas t
+-- a step of one core, or the turn of the next
+abbrev pub moved : Move → Engine → After (Result Answer StepRefusal)
+moved (Step i) e = step e i
+moved Turn e = turn e

@@ -11,7 +11,6 @@ use crate::reason::Reason;
 use crate::set_up::MemoryBuffer;
 use crate::set_up::OutletBuffer;
 use crate::tell::tell_made;
-use engine::engine::Engine;
 use engine::engine::making::check;
 use memory::bytes::ByteMemory;
 use memory::bytes::ByteMemoryMemory;
@@ -162,7 +161,7 @@ impl<'a, R: Read + Drop> Scenario<'a, R> {
         match outlet {
             OutletBuffer::Store => {
                 let outlet = StoreOutlet::new();
-                self.play_engine(heap, Engine::make(program, places, lines, memory, outlet))
+                self.play_bench(heap, Bench::make(program, places, lines, memory, outlet))
             }
             OutletBuffer::Bytes(mut bytes) => {
                 let buffer = bytes.as_mut_slice();
@@ -182,17 +181,16 @@ impl<'a, R: Read + Drop> Scenario<'a, R> {
         buffer: &'b mut [u8],
     ) -> io::Result<Option<Order>> {
         let outlet = V::over(buffer);
-        self.play_engine(heap, Engine::make(program, places, lines, memory, outlet))
+        self.play_bench(heap, Bench::make(program, places, lines, memory, outlet))
     }
 
     // Plays lines on an engine. Whatever ends that, the token is given back before the engine is let go.
-    fn play_engine<M: Memory + Drop, O: Outlet + Drop>(
+    fn play_bench<M: Memory + Drop, O: Outlet + Drop>(
         &mut self,
         heap: Global,
-        engine: Engine<M, O>,
+        mut bench: Bench<M, O>,
     ) -> io::Result<Option<Order>> {
-        let mut bench = Bench::new(engine);
-        let next = self.play_bench(heap, &mut bench);
+        let next = self.play_with_engine(heap, &mut bench);
         let held = bench.close();
         let order = next?;
         if held && order.is_none() {
@@ -201,7 +199,8 @@ impl<'a, R: Read + Drop> Scenario<'a, R> {
         Ok(order)
     }
 
-    fn play_bench<M: Memory, O: Outlet>(
+    // Plays lines until one makes another engine, or the last.
+    fn play_with_engine<M: Memory, O: Outlet>(
         &mut self,
         heap: Global,
         bench: &mut Bench<M, O>,
