@@ -17,11 +17,11 @@ use Rattle.model.specs.declared.call.Call.{Call}
 use Rattle.model.specs.declared.call.Reply.{Reply}
 use Rattle.model.specs.declared.call.Reply.the-variants.{Stepped, Cleared, Held, Word, GivenBack, Taken}
 use Rattle.model.specs.Engine.{Engine}
-use Rattle.model.specs.Runs.{reply}
+use Rattle.model.specs.Runs.{reply, plays}
 use Rattle.bench.specs.declared.call.CallFault.{CallFault}
 use Rattle.bench.specs.Calls.{callOf}
 use Rattle.bench.specs.Replies.{replyBytes}
-use Rattle.bench.specs.Playing.{answered, after, answersOf, wordsPlayed, answersLeft}
+use Rattle.bench.specs.Playing.{answered, after, answersOf, callThen, callsIn, wordsPlayed, answersLeft}
 
 -- a reply is eight bytes
 reply-eight : (r : Reply) → length (replyBytes r) ≡ 8
@@ -51,6 +51,16 @@ afters-push : (e : Engine) (ws : List ℕ) (w : ℕ) → afters e (ws ++ (w ∷ 
 unfolding afters
 afters-push e [] w = refl
 afters-push e (x ∷ ws) w = afters-push (after e (callOf x)) ws w
+
+-- that is the engine after the calls among them
+then-plays : (e : Engine) (r : Result Call CallFault) (cs : List Call) → plays (after e r) cs ≡ plays e (callThen r cs)
+then-plays e (Ok c) cs = refl
+then-plays e (Err f) cs = refl
+
+afters-plays : (e : Engine) (ws : List ℕ) → afters e ws ≡ plays e (callsIn ws)
+unfolding afters
+afters-plays e [] = refl
+afters-plays e (w ∷ ws) = afters-plays (after e (callOf w)) ws ∙ then-plays e (callOf w) (callsIn ws)
 
 answers-push : (e : Engine) (ws : List ℕ) (w : ℕ) → answersOf e (ws ++ (w ∷ [])) ≡ answersOf e ws ++ answered (afters e ws) (callOf w)
 unfolding afters
@@ -102,16 +112,18 @@ sofar-more start now next ws olds news later bytes i w h at acts answers put s =
     }
 
 -- all that are to be played
-pub record All (start : Engine) (calls olds : List ℕ) (i : ℕ) (news : List ℕ) : Type 0 where
+pub record All (start now : Engine) (calls olds : List ℕ) (i : ℕ) (news : List ℕ) : Type 0 where
+  pub engine : now ≡ plays start (callsIn (wordsPlayed calls olds))
   pub count : length (wordsPlayed calls olds) ≡ i
   pub filled : news ≡ answersLeft start (wordsPlayed calls olds) olds
 
-pub sofar-all : (made start now : Engine) (calls olds news : List ℕ) (i : ℕ) → i ≡ min (length calls / 4) (length olds / 8) → start ≡ made → Sofar start (wordsIn calls) olds i now news → All made calls olds i news
+pub sofar-all : (made start now : Engine) (calls olds news : List ℕ) (i : ℕ) → i ≡ min (length calls / 4) (length olds / 8) → start ≡ made → Sofar start (wordsIn calls) olds i now news → All made now calls olds i news
 sofar-all made start now calls olds news i at new s =
     let n = words-length calls in
     let front : take i (wordsIn calls) ≡ wordsPlayed calls olds = fronts (cases-lt (length olds / 8) (length (wordsIn calls))) in
     let long : length (wordsPlayed calls olds) ≡ i = sym (ap length front) ∙ length-take-le i (wordsIn calls) (omega arith) in
     record {
+      engine = s .engine ∙ ap (afters start) front ∙ afters-plays start (wordsPlayed calls olds) ∙ ap (λ e. plays e (callsIn (wordsPlayed calls olds))) new;
       count = long;
       filled = s .filled
           ∙ ap (λ l. answersOf start l ++ drop (8 * i) olds) front

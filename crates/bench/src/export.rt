@@ -2,7 +2,7 @@
 ghost use mathlib.Core.Path.{_≡_};
 ghost use Rattle.bench.specs.Export.{accepted, told, answersAfter, LawfulRun, KeptIfRefused, playNumber, playPlace, resultCode};
 ghost use Rattle.bench.specs.declared.export.PlayRefusal.the-variants.{Program as OfProgram, Settings as OfSettings};
-use crate::play::play_packed;
+use crate::play::play_to_end;
 use crate::settings::Settings;
 use answers::refusal::ProgramRefusal;
 use answers::refusal::ProgramRefusalDebug;
@@ -92,7 +92,7 @@ pub fn play_bytes(
         settings.lines(),
         memory.len(),
     )?;
-    Ok(play_packed(
+    Ok(play_to_end(
         program,
         settings.places(),
         settings.lines(),

@@ -5,6 +5,7 @@ ghost use lib.ListN.{length};
 ghost use Rattle.std.specs.Options.{isSome};
 ghost use Rattle.memory.specs.Bytes.{wordFrom, pasted};
 ghost use Rattle.model.specs.Engine.{make};
+ghost use Rattle.model.specs.Journal.{history};
 ghost use Rattle.model.specs.Laws.{Lawful};
 ghost use Rattle.engine.specs.Engines.{outletOf, engineOf, settingsOf, hostHas};
 ghost use Rattle.bench.specs.Calls.{callOf};
@@ -15,6 +16,7 @@ use crate::reply::fault_bytes;
 use crate::reply::reply_bytes;
 use engine::engine::Engine;
 use engine::pass::Pass;
+use engine::play::Session;
 use memory::shared::Memory;
 use outlet::waiting::Outlet;
 use program::program::Program;
@@ -55,10 +57,17 @@ fn answer<M: Memory, O: Outlet>(
     }
 }
 
+// An engine after a packed list of calls, with the host's pass where the host has the token, and how many calls were played.
+pub struct Played<M: Memory, O: Outlet> {
+    pub session: Session<M, O>,
+    pub count: usize,
+}
+
 // Lets an engine go, and before it the host's pass.
-fn finish<M: Memory + Drop, O: Outlet + Drop>(mut engine: Engine<M, O>, pass: Option<Pass>)
-    requires { ⌜ isSome pass ≡ hostHas (engineOf M·Memory O·Outlet engine .token) ⌝ }
+fn finish<M: Memory + Drop, O: Outlet + Drop>(session: Session<M, O>)
+    requires { ⌜ isSome (session .pass) ≡ hostHas (engineOf M·Memory O·Outlet (session .engine) .token) ⌝ }
 {
+    let Session { mut engine, pass } = session;
     if let Some(pass) = pass {
         match engine.give_back(pass) {
             Ok(()) => {}
@@ -68,9 +77,39 @@ fn finish<M: Memory + Drop, O: Outlet + Drop>(mut engine: Engine<M, O>, pass: Op
 }
 
 // Makes an engine and plays the first words of a packed list of calls on it, as many as there is place for whole answers.
-// Answers how many. The bytes past their answers stay. At every point of the run the serial law, the roll-back law and
-// the held-read law hold.
-pub fn play_packed<M: Memory + Drop, O: Outlet + Drop>(
+// The bytes past their answers stay. At every point of the run the serial law, the roll-back law and the held-read law
+// hold.
+pub fn play_packed<M: Memory, O: Outlet>(
+    program: Program,
+    places: &[usize],
+    lines: usize,
+    memory: M,
+    outlet: O,
+    calls: &[u8],
+    answers: &mut [u8],
+) -> Played<M, O>
+    ensures engine { λ r. ⌜ engineOf M·Memory O·Outlet (r .session .engine) ≡ history (settingsOf program (now (places .entry)) lines) (M·Memory .words memory) (outletOf O·Outlet outlet) (callsIn (wordsPlayed (now (calls .entry)) (now (answers .entry)))) .engine ⌝ }
+    ensures pass { λ r. ⌜ isSome (r .session .pass) ≡ hostHas (engineOf M·Memory O·Outlet (r .session .engine) .token) ⌝ }
+    ensures count { λ r. ⌜ r .count ≡ length (wordsPlayed (now (calls .entry)) (now (answers .entry))) ⌝ }
+    ensures answers { λ _. ⌜ now (answers .exit) ≡ answersLeft (make (settingsOf program (now (places .entry)) lines) (M·Memory .words memory) (outletOf O·Outlet outlet)) (wordsPlayed (now (calls .entry)) (now (answers .entry))) (now (answers .entry)) ⌝ }
+    ensures lawful { λ _. ⌜ Lawful (settingsOf program (now (places .entry)) lines) (M·Memory .words memory) (outletOf O·Outlet outlet) (callsIn (wordsPlayed (now (calls .entry)) (now (answers .entry)))) ⌝ }
+{
+    let mut engine = Engine::make(program, places, lines, memory, outlet);
+    let mut pass = None;
+    let count = (calls.len() / 4).min(answers.len() / 8);
+    for i in 0..count {
+        let (kept, bytes) = answer(&mut engine, pass, word_from(calls, 4 * i));
+        pass = kept;
+        put_eight(answers, 8 * i, bytes);
+    }
+    Played {
+        session: Session { engine, pass },
+        count,
+    }
+}
+
+// The same, with the engine let go at the end: what it stands on goes back to its lender.
+pub(crate) fn play_to_end<M: Memory + Drop, O: Outlet + Drop>(
     program: Program,
     places: &[usize],
     lines: usize,
@@ -83,14 +122,15 @@ pub fn play_packed<M: Memory + Drop, O: Outlet + Drop>(
     ensures answers { λ _. ⌜ now (answers .exit) ≡ answersLeft (make (settingsOf program (now (places .entry)) lines) (M·Memory .words memory) (outletOf O·Outlet outlet)) (wordsPlayed (now (calls .entry)) (now (answers .entry))) (now (answers .entry)) ⌝ }
     ensures lawful { λ _. ⌜ Lawful (settingsOf program (now (places .entry)) lines) (M·Memory .words memory) (outletOf O·Outlet outlet) (callsIn (wordsPlayed (now (calls .entry)) (now (answers .entry)))) ⌝ }
 {
-    let mut engine = Engine::make(program, places, lines, memory, outlet);
-    let mut pass = None;
-    let count = (calls.len() / 4).min(answers.len() / 8);
-    for i in 0..count {
-        let (kept, bytes) = answer(&mut engine, pass, word_from(calls, 4 * i));
-        pass = kept;
-        put_eight(answers, 8 * i, bytes);
-    }
-    finish(engine, pass);
+    let Played { session, count } = play_packed(
+        program,
+        places,
+        lines,
+        memory,
+        outlet,
+        calls,
+        answers,
+    );
+    finish(session);
     count
 }

@@ -5,7 +5,7 @@ use lib.ListN.{length}
 use Rattle.memory.specs.Bytes.{wordsIn}
 use Rattle.memory.proofs.Quads.{words-length, word-at}
 use Rattle.model.specs.Engine.{Engine as ModelEngine, make}
-use Rattle.laws.proofs.Laws.{lawful}
+use Rattle.laws.proofs.Laws.{lawful, is-played}
 use Rattle.engine.specs.Engines.{outletOf, engineOf, settingsOf, hostHas}
 use Rattle.bench.specs.Playing.{callsIn, wordsPlayed}
 use Rattle.bench.proofs.Played.{sofar-none, sofar-more, sofar-all}
@@ -37,4 +37,10 @@ returns g c =
     let m = g .M·Memory .words (c .args .memory) in
     let o = outletOf (g .O·Outlet) (c .args .outlet) in
     let all = sofar-all (make s m o) (engineOf (g .M·Memory) (g .O·Outlet) (c .make-engine .result)) (engineOf (g .M·Memory) (g .O·Outlet) (c .loop-i .engine)) calls olds (c .loop-i .answers) (c .loop-i .i) (omega (arith, c .min-count .ensures)) (c .make-engine .ensures) (c .loop-i .inv .0) in
-    record { count = omega (arith, all .count); answers = all .filled; lawful = lawful s m o (callsIn (wordsPlayed calls olds)) }
+    record {
+      engine = all .engine ∙ sym (is-played s m o (callsIn (wordsPlayed calls olds)));
+      pass = c .loop-i .inv .1;
+      count = omega (arith, all .count);
+      answers = all .filled;
+      lawful = lawful s m o (callsIn (wordsPlayed calls olds));
+    }
