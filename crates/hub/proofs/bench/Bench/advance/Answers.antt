@@ -7,7 +7,7 @@ use Rattle.hub.proofs.bench.Bench.advance.Needs as need
 pub ghost-self : need.ghost-self
 ghost-self g c =
     let b = c .args .self .now in
-    (b .held ∙ sym (ap (λ (e : Engine). hostHas (e .token)) (c .step .ensures .after) ∙ step-same (engineOf (g .M·Memory) (g .O·Outlet) (b .engine)) (c .in-Step .i)), tt)
+    (b .held ∙ sym (ap (λ (e : Engine). hostHas (e .token)) (c .step .ensures .after) ∙ step-same (engineOf (g .M·Memory) (g .O·Outlet) (b .engine)) _), tt)
 
 pub ghost-self-in-Turn : need.ghost-self-in-Turn
 ghost-self-in-Turn g c =
