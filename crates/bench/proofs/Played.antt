@@ -81,7 +81,7 @@ put-next front new olds at h k =
     let e : at + length new ≡ length front + 8 = omega arith in
     let t : take at (front ++ drop at olds) ≡ front = take-at front (drop at olds) at h in
     let d : drop (at + length new) (front ++ drop at olds) ≡ drop (at + 8) olds =
-        ap (λ n. drop n (front ++ drop at olds)) e ∙ drop-append-add front (drop at olds) 8 ∙ drop-drop 8 at olds in
+    ap (λ n. drop n (front ++ drop at olds)) e ∙ drop-append-add front (drop at olds) 8 ∙ drop-drop 8 at olds in
     rw (t, d) (sym (append-assoc front new (drop (at + 8) olds)))
 
 -- so many words of a list are played

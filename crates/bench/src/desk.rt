@@ -26,10 +26,7 @@ fn hold<M: Memory, O: Outlet>(
     ensures pass { λ r. ⌜ isSome (r .0) ≡ hostHas (engineOf M·Memory O·Outlet (now (engine .exit)) .token) ⌝ }
 {
     match pass {
-        Some(pass) => (
-            Some(pass),
-            Reply::Held(Err(HoldRefusal::TokenTaken)),
-        ),
+        Some(pass) => (Some(pass), Reply::Held(Err(HoldRefusal::TokenTaken))),
         None => match engine.hold() {
             Ok(pass) => (Some(pass), Reply::Held(Ok(()))),
             Err(refusal) => (None, Reply::Held(Err(refusal))),
@@ -52,10 +49,7 @@ fn read<M: Memory, O: Outlet>(
             let word = engine.read(&pass, address);
             (Some(pass), Reply::Word(word))
         }
-        None => (
-            None,
-            Reply::Word(Err(ReadRefusal::NotHeld)),
-        ),
+        None => (None, Reply::Word(Err(ReadRefusal::NotHeld))),
     }
 }
 
@@ -72,15 +66,9 @@ fn give_back<M: Memory, O: Outlet>(
     match pass {
         Some(pass) => match engine.give_back(pass) {
             Ok(()) => (None, Reply::GivenBack(Ok(()))),
-            Err((refusal, pass)) => (
-                Some(pass),
-                Reply::GivenBack(Err(refusal)),
-            ),
+            Err((refusal, pass)) => (Some(pass), Reply::GivenBack(Err(refusal))),
         },
-        None => (
-            None,
-            Reply::GivenBack(Err(GiveBackRefusal::NotHeld)),
-        ),
+        None => (None, Reply::GivenBack(Err(GiveBackRefusal::NotHeld))),
     }
 }
 

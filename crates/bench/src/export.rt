@@ -86,12 +86,7 @@ pub fn play_bytes(
     let program = Program::read(program)?;
     let settings = Settings::read(settings);
     let memory = ByteMemory::new(memory);
-    check(
-        &program,
-        settings.places(),
-        settings.lines(),
-        memory.len(),
-    )?;
+    check(&program, settings.places(), settings.lines(), memory.len())?;
     Ok(play_to_end(
         program,
         settings.places(),

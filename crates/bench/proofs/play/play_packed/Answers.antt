@@ -12,10 +12,10 @@ use Rattle.bench.proofs.Played.{sofar-none, sofar-more, sofar-all}
 use Rattle.bench.proofs.play.play_packed.Needs as need
 
 pub loop-i-holds : need.loop-i-holds
-loop-i-holds g c =
-    ( sofar-none (engineOf (g .M·Memory) (g .O·Outlet) (c .make-engine .result)) (wordsIn (c .args .calls .now)) (c .args .answers .now)
-    , sym (ap (λ (e : ModelEngine). hostHas (e .token)) (c .make-engine .ensures))
-    )
+loop-i-holds g c = (
+  sofar-none (engineOf (g .M·Memory) (g .O·Outlet) (c .make-engine .result)) (wordsIn (c .args .calls .now)) (c .args .answers .now),
+  sym (ap (λ (e : ModelEngine). hostHas (e .token)) (c .make-engine .ensures)),
+)
 
 pub loop-i-again : need.loop-i-again
 loop-i-again g c =
@@ -24,9 +24,9 @@ loop-i-again g c =
     let inside : c .loop-i .i < length (wordsIn calls) = omega (arith, c .min-count .ensures) in
     let start = engineOf (g .M·Memory) (g .O·Outlet) (c .make-engine .result) in
     let here = engineOf (g .M·Memory) (g .O·Outlet) (c .loop-i .engine) in
-    let next = engineOf (g .M·Memory) (g .O·Outlet) (c .answer-kept .last .engine) in
-    ( sofar-more start here next (wordsIn calls) (c .args .answers .now) (c .loop-i .answers) (c .put-eight .last .bytes) (c .answer-kept .result .1) (c .loop-i .i) (c .word-from .result) inside (c .word-from .ensures ∙ word-at calls (c .loop-i .i) inside) (c .answer-kept .ensures .after) (c .answer-kept .ensures .answer) (c .put-eight .ensures) (c .loop-i .inv .0)
-    , c .answer-kept .ensures .pass
+    let next = engineOf (g .M·Memory) (g .O·Outlet) (c .answer-kept .last .engine) in (
+      sofar-more start here next (wordsIn calls) (c .args .answers .now) (c .loop-i .answers) (c .put-eight .last .bytes) (c .answer-kept .result .1) (c .loop-i .i) (c .word-from .result) inside (c .word-from .ensures ∙ word-at calls (c .loop-i .i) inside) (c .answer-kept .ensures .after) (c .answer-kept .ensures .answer) (c .put-eight .ensures) (c .loop-i .inv .0),
+      c .answer-kept .ensures .pass,
     )
 
 pub returns : need.returns
