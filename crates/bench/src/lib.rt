@@ -1,7 +1,9 @@
 // A packed list of calls played on a new engine over byte slices, for callers in Rust and C.
 pub mod call;
-pub mod desk;
+mod desk;
 pub mod export;
 pub mod play;
 pub mod reply;
 pub mod settings;
+#[cfg(test)]
+mod tests;
