@@ -3,7 +3,7 @@ pub mod call;
 mod desk;
 pub mod export;
 pub mod play;
-pub mod reply;
-pub mod settings;
+mod reply;
+mod settings;
 #[cfg(test)]
 mod tests;
