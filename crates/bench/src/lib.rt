@@ -1,3 +1,4 @@
 // A packed list of calls played on a new engine over byte slices, for callers in Rust and C.
+mod desk;
 pub mod export;
 pub mod play;

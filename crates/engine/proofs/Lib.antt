@@ -3,3 +3,4 @@ pub mod Moving
 pub mod Rooms
 pub mod Applying
 pub mod Refusing
+pub mod Playing

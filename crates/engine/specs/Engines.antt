@@ -2,15 +2,18 @@
 --   engine_of              the engine
 --   settings_of            what it is made from
 --   host_has               whether the host has the token
+--   playable              the calls of a list that are played
 --   held_as, given_as       a hold's and a giving back's answer, the pass left out
 -- Assumes nothing.
-use Rattle.std.specs.Prelude.{ℕ, Bool, true, false, List, Ok, Err, Result}
+use Rattle.std.specs.Prelude.{ℕ, Bool, true, false, List, length, take, Ok, Err, Result}
 use Rattle.memory.specs.declared.shared.Memory.{Ghosts as MemoryGhosts}
 use Rattle.outlet.specs.declared.waiting.Outlet.{Ghosts as OutletGhosts}
 use Rattle.program.specs.declared.program.Program.{Program}
 use Rattle.program.specs.Programs.{instructions_of}
 use Rattle.model.specs.declared.refusal.HoldRefusal.{HoldRefusal}
 use Rattle.model.specs.declared.refusal.GiveBackRefusal.{GiveBackRefusal}
+use Rattle.model.specs.declared.call.Call.{Call}
+use Rattle.model.specs.declared.call.Reply.{Reply}
 use Rattle.model.specs.declared.state.Token.{Token}
 use Rattle.model.specs.declared.state.Token.TheVariants.{Free, Core as CoreHas, Host}
 use Rattle.model.specs.Engine.{Engine as ModelEngine, Outlet as ModelOutlet, Settings}
@@ -55,3 +58,7 @@ abbrev pub host_has : Token → Bool
 host_has Free = false
 host_has (CoreHas k) = false
 host_has Host = true
+
+-- the calls of a list that are played: as many as there are places for replies
+abbrev pub playable : List Call → List Reply → List Call
+playable calls replies = take (length replies) calls

@@ -1,6 +1,6 @@
 // How registers, instructions and entries are written.
 ghost use Rattle.std.specs.Prelude.{◌≡◌, Some};
-ghost use Rattle.text.specs.Texts.{register_text, name_text, operands_of, operands_text, instruction_text, record_text, sent_text};
+ghost use Rattle.text.specs.Texts.{register_text, instruction_text, record_text, sent_text};
 
 use formats::entry::{RecordEntry, SentEntry};
 use formats::instruction::Instruction;
@@ -21,84 +21,52 @@ impl fmt::Display for Shown<Register> {
     }
 }
 
-// The name of an instruction, in capitals.
-fn name(instruction: Instruction) -> &'static str
-    ensures { result.now ≡ name_text instruction }
-{
-    match instruction {
-        Instruction::Halt => "HALT",
-        Instruction::Set { .. } => "SET",
-        Instruction::Add { .. } => "ADD",
-        Instruction::Sub { .. } => "SUB",
-        Instruction::Mean { .. } => "MEAN",
-        Instruction::Load { .. } => "LOAD",
-        Instruction::Store { .. } => "STORE",
-        Instruction::Jump { .. } => "JUMP",
-        Instruction::Jz { .. } => "JZ",
-        Instruction::Jlt { .. } => "JLT",
-        Instruction::Begin => "BEGIN",
-        Instruction::End => "END",
-        Instruction::Retry => "RETRY",
-        Instruction::Early => "EARLY",
-        Instruction::Out { .. } => "OUT",
-    }
-}
-
-// The named fields of an instruction, in the order d, a, b, n.
-#[derive(Clone, Copy)]
-enum Operands {
-    Nothing,
-    Number(u32),
-    One(Register, u32),
-    Two(Register, Register, u32),
-    Three(Register, Register, Register),
-}
-
-impl Operands {
-    fn of(instruction: Instruction) -> Operands
-        ensures { result ≡ operands_of instruction }
-    {
-        match instruction {
-            Instruction::Set { d, n } => Operands::One(d, n.value()),
-            Instruction::Add { d, a, b } => Operands::Three(d, a, b),
-            Instruction::Sub { d, a, b } => Operands::Three(d, a, b),
-            Instruction::Mean { d, a, b } => Operands::Three(d, a, b),
-            Instruction::Load { d, a, n } => Operands::Two(d, a, n.value()),
-            Instruction::Store { a, b, n } => Operands::Two(a, b, n.value()),
-            Instruction::Jump { n } => Operands::Number(n.value()),
-            Instruction::Jz { a, n } => Operands::One(a, n.value()),
-            Instruction::Jlt { a, b, n } => Operands::Two(a, b, n.value()),
-            Instruction::Out { a, channel } => Operands::One(a, channel.value()),
-            Instruction::Halt => Operands::Nothing,
-            Instruction::Begin => Operands::Nothing,
-            Instruction::End => Operands::Nothing,
-            Instruction::Retry => Operands::Nothing,
-            Instruction::Early => Operands::Nothing,
-        }
-    }
-}
-
-// A space before each.
-impl fmt::Display for Operands {
-    ghost output = { λ o. Some (operands_text o) };
-
-    fn fmt<W: fmt::Write>(&self, f: &mut fmt::Formatter<W>) -> fmt::Result {
-        match *self {
-            Operands::Nothing => write!(f, ""),
-            Operands::Number(n) => write!(f, " {n}"),
-            Operands::One(r, n) => write!(f, " {} {n}", Shown(r)),
-            Operands::Two(r, s, n) => write!(f, " {} {} {n}", Shown(r), Shown(s)),
-            Operands::Three(r, s, t) => write!(f, " {} {} {}", Shown(r), Shown(s), Shown(t)),
-        }
-    }
-}
-
-// An instruction: its name and its named fields.
+// An instruction: its name in capitals, and its named fields in the order d, a, b, n.
 impl fmt::Display for Shown<Instruction> {
     ghost output = { λ i. Some (instruction_text i.0) };
 
     fn fmt<W: fmt::Write>(&self, f: &mut fmt::Formatter<W>) -> fmt::Result {
-        write!(f, "{}{}", name(self.0), Operands::of(self.0))
+        match self.0 {
+            Instruction::Halt => write!(f, "HALT"),
+            Instruction::Set { d, n } => write!(f, "SET {} {}", Shown(d), n.value()),
+            Instruction::Add { d, a, b } => write!(f, "ADD {} {} {}", Shown(d), Shown(a), Shown(b)),
+            Instruction::Sub { d, a, b } => write!(f, "SUB {} {} {}", Shown(d), Shown(a), Shown(b)),
+            Instruction::Mean { d, a, b } => write!(
+                f,
+                "MEAN {} {} {}",
+                Shown(d),
+                Shown(a),
+                Shown(b)
+            ),
+            Instruction::Load { d, a, n } => write!(
+                f,
+                "LOAD {} {} {}",
+                Shown(d),
+                Shown(a),
+                n.value()
+            ),
+            Instruction::Store { a, b, n } => write!(
+                f,
+                "STORE {} {} {}",
+                Shown(a),
+                Shown(b),
+                n.value()
+            ),
+            Instruction::Jump { n } => write!(f, "JUMP {}", n.value()),
+            Instruction::Jz { a, n } => write!(f, "JZ {} {}", Shown(a), n.value()),
+            Instruction::Jlt { a, b, n } => write!(
+                f,
+                "JLT {} {} {}",
+                Shown(a),
+                Shown(b),
+                n.value()
+            ),
+            Instruction::Begin => write!(f, "BEGIN"),
+            Instruction::End => write!(f, "END"),
+            Instruction::Retry => write!(f, "RETRY"),
+            Instruction::Early => write!(f, "EARLY"),
+            Instruction::Out { a, channel } => write!(f, "OUT {} {}", Shown(a), channel.value()),
+        }
     }
 }
 

@@ -1,4 +1,4 @@
-// Making, changing and flushing the lines of a write buffer, and emptying it.
+// Making, changing and flushing the lines of a write buffer.
 ghost use Rattle.std.specs.Prelude.{◌≡◌, ◌<◌, false, [], ◌∷◌, ◌++◌, length, slice_set};
 ghost use Rattle.model.specs.Lines.{holds, restored, cleaned, wrote, left};
 ghost use Rattle.cores.specs.Buffers.{lines_of, line_at};
@@ -8,56 +8,69 @@ use model::effect::Effect;
 use model::place::Line;
 
 impl Buffer {
-    // Makes one more line, at an address that has none.
-    pub(crate) fn push(&mut self, line: Line)
-        requires self_len_bound { length (lines_of self.old) < 32 }
-        requires address_value { holds (lines_of self.old) line.address ≡ false }
-        ensures { lines_of self.new ≡ lines_of self.old ++ line ∷ [] }
+    // The buffer with one more line, at an address that has none.
+    pub(crate) fn with_line(self, line: Line) -> Buffer
+        requires self_len_bound { length (lines_of self) < 32 }
+        requires address_value { holds (lines_of self) line.address ≡ false }
+        ensures { lines_of result ≡ lines_of self ++ line ∷ [] }
     {
-        let at = self.used;
-        self.lines[at] = line;
-        self.used = at + 1;
-    }
-
-    // Puts another word into the line at a place, which is dirty then; its tag stays as it is.
-    pub fn store(&mut self, index: usize, value: u32)
-        ensures { lines_of self.new ≡ slice_set (lines_of self.old) index (restored (line_at (lines_of self.old) index) value) }
-    {
-        if index < self.used {
-            let old = self.lines[index];
-            self.lines[index] = Line {
-                address: old.address,
-                value,
-                tag: old.tag,
-                dirty: true,
-            };
+        let mut lines = self.lines;
+        lines[self.used] = line;
+        Buffer {
+            lines,
+            used: self.used + 1,
         }
     }
 
-    // The line at a place is written out: dirty no more.
-    fn clean(&mut self, index: usize)
-        ensures { lines_of self.new ≡ slice_set (lines_of self.old) index (cleaned (line_at (lines_of self.old) index)) }
+    // The buffer with another word in the line at a place, which is dirty then; its tag stays as it is.
+    pub fn with_word(self, index: usize, value: u32) -> Buffer
+        ensures { lines_of result ≡ slice_set (lines_of self) index (restored (line_at (lines_of self) index) value) }
     {
-        if index < self.used {
-            let line = self.lines[index];
-            self.lines[index] = Line {
-                address: line.address,
-                value: line.value,
-                tag: line.tag,
-                dirty: false,
-            };
+        if index >= self.used {
+            return self;
+        }
+        let mut lines = self.lines;
+        let old = lines[index];
+        lines[index] = Line {
+            address: old.address,
+            value,
+            tag: old.tag,
+            dirty: true,
+        };
+        Buffer {
+            lines,
+            used: self.used,
         }
     }
 
-    // Writes out the oldest dirty line, which is dirty no more; answers the write, and nothing where no line is dirty.
-    pub fn flush(&mut self) -> Effect
-        ensures effect { result ≡ wrote (lines_of self.old) }
-        ensures lines { lines_of self.new ≡ left (lines_of self.old) }
+    // The buffer with the line at a place written out: dirty no more.
+    pub fn with_clean(self, index: usize) -> Buffer
+        ensures { lines_of result ≡ slice_set (lines_of self) index (cleaned (line_at (lines_of self) index)) }
+    {
+        if index >= self.used {
+            return self;
+        }
+        let mut lines = self.lines;
+        let line = lines[index];
+        lines[index] = Line {
+            address: line.address,
+            value: line.value,
+            tag: line.tag,
+            dirty: false,
+        };
+        Buffer {
+            lines,
+            used: self.used,
+        }
+    }
+
+    // The write of the oldest dirty line, and nothing where no line is dirty.
+    pub fn oldest_write(&self) -> Effect
+        ensures { result ≡ wrote (lines_of self.now) }
     {
         match self.first_dirty() {
             Some(index) => {
                 let line = self.line(index);
-                self.clean(index);
                 Effect::Wrote {
                     address: line.address,
                     word: line.value,
@@ -67,10 +80,13 @@ impl Buffer {
         }
     }
 
-    // Empties the buffer: no line is in use.
-    pub fn clear(&mut self)
-        ensures { lines_of self.new ≡ [] }
+    // The buffer once its oldest dirty line is written: that line is dirty no more.
+    pub fn flushed(self) -> Buffer
+        ensures { lines_of result ≡ left (lines_of self) }
     {
-        self.used = 0;
+        match self.first_dirty() {
+            Some(index) => self.with_clean(index),
+            None => self,
+        }
     }
 }

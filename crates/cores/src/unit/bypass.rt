@@ -3,13 +3,15 @@ ghost use Rattle.std.specs.Prelude.{◌≡◌, ◌<◌, ◌≤◌};
 ghost use Rattle.model.specs.declared.effect.Effect.TheVariants.{Sent};
 ghost use Rattle.model.specs.Cores.{plain_send, in_bypass};
 ghost use Rattle.cores.specs.Decisions.{outer_of, OnwardOuter};
-ghost use Rattle.cores.specs.Steps.{scene_of, opened};
-ghost use Rattle.cores.specs.Units.{core_of, outcome_of};
+ghost use Rattle.cores.specs.Steps.{stepped_of, scene_of, opened};
+ghost use Rattle.cores.specs.Units.{core_of};
 
 use super::Core;
+use super::outcomes::Stepped;
 use crate::ask::{next, put};
+use crate::buffer::Buffer;
 use crate::decide::Outer;
-use crate::scene::{Outcome, Scene};
+use crate::scene::Scene;
 use answers::answer::Answer;
 use formats::entry::{Mark, SentEntry};
 use model::effect::Effect;
@@ -17,9 +19,9 @@ use model::state::{State, Token};
 
 impl Core {
     // Sending outside a block, when the token is free.
-    fn plain_send(&mut self, scene: Scene, entry: SentEntry) -> Outcome
-        requires { self.old.place.pc < 511 }
-        ensures { outcome_of self.new result ≡ plain_send (scene_of scene) (core_of self.old) scene.room (Sent entry) }
+    fn plain_send(self, scene: Scene, entry: SentEntry) -> Stepped
+        requires { self.place.pc < 511 }
+        ensures { stepped_of result ≡ plain_send (scene_of scene) (core_of self) scene.room (Sent entry) }
     {
         if scene.room > 0 {
             self.plain(scene, State::Bypass, next(self.place), Effect::Sent(entry))
@@ -28,25 +30,26 @@ impl Core {
         }
     }
 
-    // The core goes into the block that its BEGIN opens.
-    fn open(&mut self)
-        requires { self.old.place.pc < 511 }
-        ensures { core_of self.new ≡ opened (core_of self.old) }
+    // The core in the block that its BEGIN opens.
+    fn opened(self) -> Core
+        requires { self.place.pc < 511 }
+        ensures { core_of result ≡ opened (core_of self) }
     {
-        let here = self.place;
-        self.state = State::Transaction;
-        self.place = next(here);
-        self.saved = here;
-        self.depth = 1;
-        self.count = 1;
-        self.buffer.clear();
+        Core {
+            state: State::Transaction,
+            place: next(self.place),
+            saved: self.place,
+            depth: 1,
+            count: 1,
+            buffer: Buffer::new(),
+        }
     }
 
     // A step in BYPASS.
-    pub(super) fn in_bypass(&mut self, outer: Outer, scene: Scene) -> Outcome
-        requires here { self.old.place.pc ≤ 511 }
-        requires onward { OnwardOuter self.old.place scene.words outer }
-        ensures { outcome_of self.new result ≡ in_bypass (scene_of scene) (core_of self.old) (outer_of self.old.place outer) }
+    pub(super) fn in_bypass(self, outer: Outer, scene: Scene) -> Stepped
+        requires here { self.place.pc ≤ 511 }
+        requires onward { OnwardOuter self.place scene.words outer }
+        ensures { stepped_of result ≡ in_bypass (scene_of scene) (core_of self) (outer_of self.place outer) }
     {
         match outer {
             Outer::Faults(fault) => self.faulted(scene, Mark::Discarded, 0, fault),
@@ -69,10 +72,7 @@ impl Core {
                 Token::Free => self.plain_send(scene, entry),
                 Token::Core(_) | Token::Host => self.becomes(scene, Answer::Waiting),
             },
-            Outer::Opens => {
-                self.open();
-                self.becomes(scene, Answer::Running)
-            }
+            Outer::Opens => self.opened().becomes(scene, Answer::Running),
             Outer::Stops => self.plain(scene, State::Stopped, next(self.place), Effect::Nothing),
         }
     }

@@ -2,8 +2,8 @@
 ghost use Rattle.std.specs.Prelude.{◌≡◌, ◌<◌, ◌≤◌};
 ghost use Rattle.model.specs.Cores.{freed, becomes, acts, takes_token, finishes, faulted, ends, plain};
 ghost use Rattle.cores.specs.Bounds.{pc_most};
-ghost use Rattle.cores.specs.Steps.{scene_of};
-ghost use Rattle.cores.specs.Units.{core_of, outcome_of};
+ghost use Rattle.cores.specs.Steps.{stepped_of, scene_of};
+ghost use Rattle.cores.specs.Units.{core_of};
 
 use super::Core;
 use crate::ask::next;
@@ -14,6 +14,13 @@ use formats::entry::{Mark, RecordEntry};
 use model::effect::Effect;
 use model::place::Place;
 use model::state::{State, Token};
+
+// A core after a step, with what the step comes to besides.
+#[derive(Clone, Copy)]
+pub(super) struct Stepped {
+    pub(super) core: Core,
+    pub(super) outcome: Outcome,
+}
 
 // The token once a core has finished: free, if it had it.
 fn free_from(token: Token, me: CoreNumber) -> Token
@@ -44,98 +51,105 @@ fn unit_count(count: u32) -> UnitCount
 }
 
 impl Core {
-    // Only the core changes, to this one.
-    pub(super) fn becomes(&self, scene: Scene, answer: Answer) -> Outcome
-        ensures { outcome_of self.now result ≡ becomes (scene_of scene) (core_of self.now) answer }
+    // Only the core changes.
+    pub(super) fn becomes(self, scene: Scene, answer: Answer) -> Stepped
+        ensures { stepped_of result ≡ becomes (scene_of scene) (core_of self) answer }
     {
         self.acts(scene, Effect::Nothing, answer)
     }
 
-    // The core changes to this one, with an effect.
-    pub(super) fn acts(&self, scene: Scene, effect: Effect, answer: Answer) -> Outcome
-        ensures { outcome_of self.now result ≡ acts (scene_of scene) (core_of self.now) effect answer }
+    // The core changes, with an effect.
+    pub(super) fn acts(self, scene: Scene, effect: Effect, answer: Answer) -> Stepped
+        ensures { stepped_of result ≡ acts (scene_of scene) (core_of self) effect answer }
     {
-        Outcome {
-            effect,
-            token: scene.token,
-            entry: None,
-            answer,
+        Stepped {
+            core: self,
+            outcome: Outcome {
+                effect,
+                token: scene.token,
+                entry: None,
+                answer,
+            },
         }
     }
 
-    // The core changes to this one, and takes the token.
-    pub(super) fn takes_token(&self, scene: Scene, answer: Answer) -> Outcome
-        ensures { outcome_of self.now result ≡ takes_token (scene_of scene) (core_of self.now) answer }
+    // The core takes the token.
+    pub(super) fn takes_token(self, scene: Scene, answer: Answer) -> Stepped
+        ensures { stepped_of result ≡ takes_token (scene_of scene) (core_of self) answer }
     {
-        Outcome {
-            effect: Effect::Nothing,
-            token: Token::Core(scene.me.value() as usize),
-            entry: None,
-            answer,
+        Stepped {
+            core: self,
+            outcome: Outcome {
+                effect: Effect::Nothing,
+                token: Token::Core(scene.me.value() as usize),
+                entry: None,
+                answer,
+            },
         }
     }
 
-    // The core changes to this one, and finishes a unit.
+    // The core finishes a unit.
     pub(super) fn finishes(
-        &self,
+        self,
         scene: Scene,
         effect: Effect,
         mark: Mark,
         count: u32,
         answer: Answer,
-    ) -> Outcome
+    ) -> Stepped
         requires { count ≤ 4096 }
-        ensures { outcome_of self.now result ≡ finishes (scene_of scene) (core_of self.now) effect mark count answer }
+        ensures { stepped_of result ≡ finishes (scene_of scene) (core_of self) effect mark count answer }
     {
         let entry = RecordEntry {
             core: scene.me,
             mark,
             count: unit_count(count),
         };
-        Outcome {
-            effect,
-            token: free_from(scene.token, scene.me),
-            entry: Some(entry),
-            answer,
+        Stepped {
+            core: self,
+            outcome: Outcome {
+                effect,
+                token: free_from(scene.token, scene.me),
+                entry: Some(entry),
+                answer,
+            },
         }
     }
 
     // A fault: the core finishes and stops where it is.
-    pub(super) fn faulted(&mut self, scene: Scene, mark: Mark, count: u32, fault: Fault) -> Outcome
+    pub(super) fn faulted(self, scene: Scene, mark: Mark, count: u32, fault: Fault) -> Stepped
         requires { count ≤ 4096 }
-        ensures { outcome_of self.new result ≡ faulted (scene_of scene) (core_of self.old) mark count fault }
+        ensures { stepped_of result ≡ faulted (scene_of scene) (core_of self) mark count fault }
     {
         let answer = Answer::Faulted {
             fault,
             pc: self.place.pc,
         };
-        self.rest(State::Stopped, self.place);
-        self.finishes(scene, Effect::Nothing, mark, count, answer)
+        self.resting(State::Stopped, self.place)
+            .finishes(scene, Effect::Nothing, mark, count, answer)
     }
 
     // The block ends: END is performed.
-    pub(super) fn ends(&mut self, scene: Scene, effect: Effect) -> Outcome
-        requires pc_bound { self.old.place.pc < 511 }
-        requires count_bound { self.old.count < 4096 }
-        ensures { outcome_of self.new result ≡ ends (scene_of scene) (core_of self.old) effect }
+    pub(super) fn ends(self, scene: Scene, effect: Effect) -> Stepped
+        requires pc_bound { self.place.pc < 511 }
+        requires count_bound { self.count < 4096 }
+        ensures { stepped_of result ≡ ends (scene_of scene) (core_of self) effect }
     {
-        let count = self.count + 1;
-        self.rest(State::Bypass, next(self.place));
-        self.finishes(scene, effect, Mark::Completed, count, Answer::Done)
+        self.resting(State::Bypass, next(self.place)).finishes(
+            scene,
+            effect,
+            Mark::Completed,
+            self.count + 1,
+            Answer::Done,
+        )
     }
 
     // A plain instruction is performed, and with it its unit.
-    pub(super) fn plain(
-        &mut self,
-        scene: Scene,
-        state: State,
-        place: Place,
-        effect: Effect,
-    ) -> Outcome
+    pub(super) fn plain(self, scene: Scene, state: State, place: Place, effect: Effect) -> Stepped
         requires { place.pc ≤ pc_most state }
-        ensures { outcome_of self.new result ≡ plain (scene_of scene) (core_of self.old) state place effect }
+        ensures { stepped_of result ≡ plain (scene_of scene) (core_of self) state place effect }
     {
-        self.rest(state, place);
-        self.finishes(scene, effect, Mark::Completed, 1, Answer::Done)
+        self.resting(state, place)
+            .finishes(scene, effect, Mark::Completed, 1, Answer::Done)
     }
 }

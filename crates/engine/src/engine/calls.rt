@@ -35,10 +35,21 @@ impl<M: Memory, O: Outlet> Engine<M, O> {
         ensures after { engine_of M.Memory O.Outlet self.new ≡ (hold (engine_of M.Memory O.Outlet self.old)).engine }
         ensures answer { held_as result ≡ (hold (engine_of M.Memory O.Outlet self.old)).answer }
     {
+        match self.occupy() {
+            Ok(()) => Ok(Pass::issue()),
+            Err(refusal) => Err(refusal),
+        }
+    }
+
+    // The same without a pass.
+    pub(crate) fn occupy(&mut self) -> Result<(), HoldRefusal>
+        ensures after { engine_of M.Memory O.Outlet self.new ≡ (hold (engine_of M.Memory O.Outlet self.old)).engine }
+        ensures answer { result ≡ (hold (engine_of M.Memory O.Outlet self.old)).answer }
+    {
         match self.token {
             Token::Free => {
                 self.token = Token::Host;
-                Ok(Pass::issue())
+                Ok(())
             }
             _ => Err(HoldRefusal::TokenTaken),
         }
@@ -46,6 +57,13 @@ impl<M: Memory, O: Outlet> Engine<M, O> {
 
     // Shows the word at an address to the host, if the host has this engine's token.
     pub fn read(&self, _pass: &Pass, address: usize) -> Result<u32, ReadRefusal>
+        ensures { result ≡ read (engine_of M.Memory O.Outlet self.now) address }
+    {
+        self.word_held(address)
+    }
+
+    // The same without a pass.
+    pub(crate) fn word_held(&self, address: usize) -> Result<u32, ReadRefusal>
         ensures { result ≡ read (engine_of M.Memory O.Outlet self.now) address }
     {
         match self.token {
@@ -62,13 +80,26 @@ impl<M: Memory, O: Outlet> Engine<M, O> {
         ensures after { engine_of M.Memory O.Outlet self.new ≡ (give_back (engine_of M.Memory O.Outlet self.old)).engine }
         ensures answer { given_as result ≡ (give_back (engine_of M.Memory O.Outlet self.old)).answer }
     {
-        match self.token {
-            Token::Host => {
-                self.token = Token::Free;
+        match self.release() {
+            Ok(()) => {
                 pass.spend();
                 Ok(())
             }
-            _ => Err((GiveBackRefusal::NotHeld, pass)),
+            Err(refusal) => Err((refusal, pass)),
+        }
+    }
+
+    // The same without a pass.
+    pub(crate) fn release(&mut self) -> Result<(), GiveBackRefusal>
+        ensures after { engine_of M.Memory O.Outlet self.new ≡ (give_back (engine_of M.Memory O.Outlet self.old)).engine }
+        ensures answer { result ≡ (give_back (engine_of M.Memory O.Outlet self.old)).answer }
+    {
+        match self.token {
+            Token::Host => {
+                self.token = Token::Free;
+                Ok(())
+            }
+            _ => Err(GiveBackRefusal::NotHeld),
         }
     }
 

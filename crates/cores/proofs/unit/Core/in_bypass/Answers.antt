@@ -13,7 +13,7 @@ use Rattle.cores.proofs.unit.Core.in_bypass.Goals as goal
 
 pub returns-in-Free : goal.returns-in-Free
 returns-in-Free c =
-    let core = c.args.self.now in
+    let core = c.args.self in
     let s = c.args.scene in
     let there = (subst (λ (o : Outer). OnwardOuter core.place s.words o) c.in-Loads.is c.requires.onward).1 in
     c.plain-in-Free.ensures

@@ -9,7 +9,7 @@ use Rattle.cores.proofs.unit.Core.in_transaction.Goals as goal
 
 pub returns-in-Loads : goal.returns-in-Loads
 returns-in-Loads c =
-    let core = c.args.self.now in
+    let core = c.args.self in
     let s = c.args.scene in
     let there = (subst (λ (o : Inner). OnwardInner core.place core.count s.words o) c.in-Loads.is c.requires.onward).2 in
     c.loads.ensures

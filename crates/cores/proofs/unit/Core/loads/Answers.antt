@@ -14,22 +14,22 @@ use Rattle.cores.proofs.unit.Core.loads.Goals as goal
 
 pub with-line-requires : goal.with-line-requires
 with-line-requires c =
-    (c.requires.0, c.requires.1, omega (arith, ap (λ (p : Place). p.pc) c.put-in-None.ensures), not_held (lines_of c.args.self.now.buffer) c.args.address (sym c.in-None.ensures))
+    (c.requires.0, c.requires.1, omega (arith, ap (λ (p : Place). p.pc) c.put.ensures), not_held (lines_of c.args.self.buffer) c.args.address (sym c.in-None.ensures))
 
 pub returns-in-Some : goal.returns-in-Some
 returns-in-Some c =
-    let core = c.args.self.now in
+    let core = c.args.self in
     let s = c.args.scene in
     c.becomes.ensures
-    ∙ ap (λ (x : ModelCore). becomes (scene_of s) x Running) c.perform.ensures
-    ∙ ap (λ (p : Place). becomes (scene_of s) (performed (core_of core) p core.depth (lines_of core.buffer)) Running) c.put.ensures
-    ∙ ap (λ (l : Line). becomes (scene_of s) (performed (core_of core) (onward core.place (put_reg core.place.registers c.args.d l.value)) core.depth (lines_of core.buffer)) Running) c.line-word.ensures
+    ∙ ap (λ (x : ModelCore). becomes (scene_of s) x Running) c.performed.ensures
+    ∙ ap (λ (p : Place). becomes (scene_of s) (performed (core_of core) p core.depth (lines_of core.buffer)) Running) c.put-place.ensures
+    ∙ ap (λ (l : Line). becomes (scene_of s) (performed (core_of core) (onward core.place (put_reg core.place.registers c.args.d l.value)) core.depth (lines_of core.buffer)) Running) c.line.ensures
     ∙ load_found s (core_of core) c.args.address c.args.d c.in-Some.index (sym c.in-Some.ensures)
 
 pub returns-in-None : goal.returns-in-None
 returns-in-None c =
-    let core = c.args.self.now in
+    let core = c.args.self in
     let s = c.args.scene in
     c.with-line.ensures
-    ∙ ap (λ (p : Place). with_line (scene_of s) (core_of core) p (loaded_line c.args.address s.word)) c.put-in-None.ensures
+    ∙ ap (λ (p : Place). with_line (scene_of s) (core_of core) p (loaded_line c.args.address s.word)) c.put.ensures
     ∙ load-new s (core_of core) c.args.address c.args.d (sym c.in-None.ensures)

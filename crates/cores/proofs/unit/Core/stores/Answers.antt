@@ -14,21 +14,21 @@ use Rattle.cores.proofs.unit.Core.stores.Goals as goal
 
 pub with-line-requires : goal.with-line-requires
 with-line-requires c =
-    (c.requires.0, c.requires.1, omega (arith, ap (λ (p : Place). p.pc) c.next-in-None.ensures), not_held (lines_of c.args.self.now.buffer) c.args.address (sym c.in-None.ensures))
+    (c.requires.0, c.requires.1, omega (arith, ap (λ (p : Place). p.pc) c.next-in-None.ensures), not_held (lines_of c.args.self.buffer) c.args.address (sym c.in-None.ensures))
 
 pub returns-in-Some : goal.returns-in-Some
 returns-in-Some c =
-    let core = c.args.self.now in
+    let core = c.args.self in
     let s = c.args.scene in
     c.becomes.ensures
-    ∙ ap (λ (x : ModelCore). becomes (scene_of s) x Running) c.perform.ensures
-    ∙ ap (λ (p : Place). becomes (scene_of s) (performed (core_of core) p core.depth (lines_of c.store.new.self)) Running) c.next.ensures
-    ∙ ap (λ (ls : List Line). becomes (scene_of s) (performed (core_of core) (past core.place) core.depth ls) Running) c.store.ensures
+    ∙ ap (λ (x : ModelCore). becomes (scene_of s) x Running) c.performed.ensures
+    ∙ ap (λ (p : Place). becomes (scene_of s) (performed (core_of core) p core.depth (lines_of c.with-word.result)) Running) c.next.ensures
+    ∙ ap (λ (ls : List Line). becomes (scene_of s) (performed (core_of core) (past core.place) core.depth ls) Running) c.with-word.ensures
     ∙ store_found s (core_of core) c.args.address c.args.word c.in-Some.index (sym c.in-Some.ensures)
 
 pub returns-in-None : goal.returns-in-None
 returns-in-None c =
-    let core = c.args.self.now in
+    let core = c.args.self in
     let s = c.args.scene in
     c.with-line.ensures
     ∙ ap (λ (p : Place). with_line (scene_of s) (core_of core) p (stored_line c.args.address c.args.word)) c.next-in-None.ensures

@@ -1,12 +1,12 @@
 use Rattle.std.proofs.Common.{◌∙◌, arith, length-set}
 use Rattle.cores.proofs.Buffers.{front_length, pushed, pushed-apart}
-use Rattle.cores.proofs.buffer.Buffer.push.Goals as goal
+use Rattle.cores.proofs.buffer.Buffer.with_line.Goals as goal
 
-pub invariant-of-self : goal.invariant-of-self
-invariant-of-self c =
-    let b = c.args.self.now in
+pub invariant-of-result : goal.invariant-of-result
+invariant-of-result c =
+    let b = c.args.self in
     let long = front_length b.lines b.used b.few b.sized in
     (omega (arith, c.requires.0), (length-set b.lines b.used c.args.line ∙ b.sized, (pushed-apart b.lines b.used b.few b.sized c.args.line c.requires.0 c.requires.1 b.apart, tt)))
 
 pub returns : goal.returns
-returns c = let b = c.args.self.now in pushed b.lines b.used b.few b.sized c.args.line c.requires.0
+returns c = let b = c.args.self in pushed b.lines b.used b.few b.sized c.args.line c.requires.0
