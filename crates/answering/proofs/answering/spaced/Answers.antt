@@ -9,8 +9,8 @@ loop-address-preserved c =
     let i = c.loop-address.address-index in
     let inside : i < length ns = omega arith in
     let word = λ (n : ℕ). codes " " ++ decimal n in
-    let one = c.as-str.ensures.value ∙ c.in-ok-one.ensures.ok in
-    c.in-ok-push-str.ensures.bytes ∙ (λ k. c.loop-address.invariant k ++ one k) ∙ flat_map_more word [] (take i ns) (get_or ns i 0) ∙ ap spaced_text (sym (take_more ns i 0 inside))
+    let one = c.as_str.ensures.value ∙ c.in_ok-one.ensures.ok in
+    c.in_ok-push_str.ensures.bytes ∙ (λ k. c.loop-address.invariant k ++ one k) ∙ flat_map_more word [] (take i ns) (get_or ns i 0) ∙ ap spaced_text (sym (take_more ns i 0 inside))
 
 pub returns : goal.returns
 returns c =

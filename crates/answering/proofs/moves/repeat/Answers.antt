@@ -6,8 +6,8 @@ use Rattle.answering.specs.Repeated.{further_moves, repeated}
 use Rattle.answering.proofs.Further.{none_left, moved_on, moved_last}
 use Rattle.answering.proofs.moves.repeat.Goals as goal
 
-pub returns-then-is-err : goal.returns-then-is-err
-returns-then-is-err g c =
+pub returns-then-is_err : goal.returns-then-is_err
+returns-then-is_err g c =
     let called = c.loop-called.called in
     let times = c.args.times in
     let which = c.args.which in
@@ -16,7 +16,7 @@ returns-then-is-err g c =
     let before : Moved = record { last = c.loop-called.last; count = called } in
     let answer = c.advance-answer.result in
     let more : suc (times - (called + 1)) ≡ times - called = omega arith in
-    let last = moved_last (times - (called + 1)) which here next before answer c.advance-answer.ensures.after c.advance-answer.ensures.answer (sym c.if-is-err.ensures.value) in
+    let last = moved_last (times - (called + 1)) which here next before answer c.advance-answer.ensures.after c.advance-answer.ensures.answer (sym c.if-is_err.ensures.value) in
     let all =
     ap (λ (n : ℕ). stays {A = Moved} next (record { last = Some answer; count = n })) (add-one called)
     ∙ sym last
@@ -34,7 +34,7 @@ loop-called-preserved g c =
     let before : Moved = record { last = c.loop-called.last; count = called } in
     let answer = c.advance-answer.result in
     let more : suc (times - (called + 1)) ≡ times - called = omega arith in
-    let on = moved_on (times - (called + 1)) which here next before answer c.advance-answer.ensures.after c.advance-answer.ensures.answer (sym c.if-is-err.ensures.value) in
+    let on = moved_on (times - (called + 1)) which here next before answer c.advance-answer.ensures.after c.advance-answer.ensures.answer (sym c.if-is_err.ensures.value) in
     ap (λ (n : ℕ). further_moves (times - (called + 1)) which next (record { last = Some answer; count = n })) (add-one called)
     ∙ sym on
     ∙ ap (λ (n : ℕ). further_moves n which here before) more

@@ -22,7 +22,7 @@ loop-i-preserved g c =
     let start = engine_of g.M.Memory g.O.Outlet c.make-engine.result in
     let here = engine_of g.M.Memory g.O.Outlet c.loop-i.engine in
     let next = engine_of g.M.Memory g.O.Outlet c.answer-kept.new.engine in (
-      sofar_more start here next (words_in calls) c.args.answers.now c.loop-i.answers c.put-eight.new.bytes c.answer-kept.result.1 c.loop-i.i c.word-from.result inside (c.word-from.ensures ∙ quad_word_at calls c.loop-i.i inside) c.answer-kept.ensures.after c.answer-kept.ensures.answer c.put-eight.ensures c.loop-i.invariant.0,
+      sofar_more start here next (words_in calls) c.args.answers.now c.loop-i.answers c.put_eight.new.bytes c.answer-kept.result.1 c.loop-i.i c.word_from.result inside (c.word_from.ensures ∙ quad_word_at calls c.loop-i.i inside) c.answer-kept.ensures.after c.answer-kept.ensures.answer c.put_eight.ensures c.loop-i.invariant.0,
       c.answer-kept.ensures.pass,
     )
 

@@ -3,4 +3,4 @@ use Rattle.formats.proofs.Sents.{same_sent}
 use Rattle.codecs.proofs.sent.decode.Goals as goal
 
 pub returns : goal.returns
-returns c = same_sent _ _ c.channel-of.ensures refl
+returns c = same_sent _ _ c.channel_of.ensures refl

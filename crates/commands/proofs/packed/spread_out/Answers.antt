@@ -5,7 +5,7 @@ use Rattle.commands.proofs.packed.spread_out.Goals as goal
 
 pub loop-number-preserved : goal.loop-number-preserved
 loop-number-preserved c =
-    c.in-ok-extend-from-slice.ensures.items ∙ (λ k. c.loop-number.invariant k ++ c.to-be-bytes.ensures k) ∙ sym (spread_more c.args.numbers.now c.loop-number.number-index c.loop-number-test.true)
+    c.in_ok-extend_from_slice.ensures.items ∙ (λ k. c.loop-number.invariant k ++ c.to_be_bytes.ensures k) ∙ sym (spread_more c.args.numbers.now c.loop-number.number-index c.loop-number-test.true)
 
 pub returns : goal.returns
 returns c = c.loop-number.invariant ∙ ap spread (take_all _ _ c.loop-number-test.false)

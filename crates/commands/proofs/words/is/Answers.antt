@@ -7,4 +7,4 @@ use Rattle.std.proofs.lemmas.Bool.Decides.{Decides-eqb}
 
 pub returns : goal.returns
 returns c =
-    one_answer c.eq.result (bytes_eq c.args.word.now c.as-bytes.result.now) (c.args.word.now ≡ c.as-bytes.result.now) (slice_eq-Decides Decides-eqb _ _ _ c.eq.ensures) (bytes_eq-Decides c.args.word.now c.as-bytes.result.now) ∙ ap (bytes_eq c.args.word.now) c.as-bytes.ensures.value
+    one_answer c.eq.result (bytes_eq c.args.word.now c.as_bytes.result.now) (c.args.word.now ≡ c.as_bytes.result.now) (slice_eq-Decides Decides-eqb _ _ _ c.eq.ensures) (bytes_eq-Decides c.args.word.now c.as_bytes.result.now) ∙ ap (bytes_eq c.args.word.now) c.as_bytes.ensures.value

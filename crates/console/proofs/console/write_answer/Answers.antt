@@ -7,14 +7,14 @@ use Rattle.console.proofs.console.write_answer.Goals as goal
 pub returns : goal.returns
 returns c =
     let before = vec_items c.args.out.now in
-    let begun = vec_items c.write-head.new.out in
-    let after = vec_items c.write-line.new.out in
+    let begun = vec_items c.write_head.new.out in
+    let after = vec_items c.write_line.new.out in
     let text = c.args.text.now in
     let told = c.args.told.now in
-    IfOk-weaker c.write-line.result
+    IfOk-weaker c.write_line.result
     (λ x. after ≡ begun ++ ended told)
     (λ x. after ≡ before ++ told_line text told)
     (λ x is. is
-    ∙ ap (λ (l : List ℕ). l ++ ended told) c.in-ok-write-head.ensures
+    ∙ ap (λ (l : List ℕ). l ++ ended told) c.in_ok-write_head.ensures
     ∙ append_assoc before (head_text text) (ended told))
-    c.write-line.ensures
+    c.write_line.ensures

@@ -4,6 +4,6 @@ use Rattle.console.proofs.console.write_head.Goals as goal
 
 pub returns : goal.returns
 returns c =
-    c.in-ok-extend-from-slice.ensures.items
-    ∙ ap (λ (l : List ℕ). l ++ codes "-> ") c.in-ok-write-tokens.ensures
+    c.in_ok-extend_from_slice.ensures.items
+    ∙ ap (λ (l : List ℕ). l ++ codes "-> ") c.in_ok-write_tokens.ensures
     ∙ append_assoc (vec_items c.args.out.now) (echoed (tokens_of c.args.text.now)) (codes "-> ")

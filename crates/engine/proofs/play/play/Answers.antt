@@ -24,5 +24,5 @@ returns g c =
       engine = all.engine ∙ ap (λ (e : ModelEngine). plays e (playable calls olds)) c.make-engine.ensures ∙ sym (is_played s m o (playable calls olds));
       replies = all.filled ∙ ap (λ (e : ModelEngine). replies e (playable calls olds) ++ drop (length (playable calls olds)) olds) c.make-engine.ensures;
       lawful = lawful s m o (playable calls olds);
-      pass = c.pass-for-pass.ensures ∙ ap host_has c.token.ensures;
+      pass = c.pass_for-pass.ensures ∙ ap host_has c.token.ensures;
     }

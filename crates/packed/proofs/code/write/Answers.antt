@@ -5,6 +5,6 @@ use Rattle.packed.proofs.code.write.Goals as goal
 
 pub returns : goal.returns
 returns c =
-    let all = c.to-be-bytes-all.ensures ∙ eight_bytes c.args.code in
-    let part : c.copy-from-slice.new.self ≡ drop (8 - length c.args.out.now) c.to-be-bytes-all.result = search (rules, take_rest) in
+    let all = c.to_be_bytes-all.ensures ∙ eight_bytes c.args.code in
+    let part : c.copy_from_slice.new.self ≡ drop (8 - length c.args.out.now) c.to_be_bytes-all.result = search (rules, take_rest) in
     part ∙ ap (drop (8 - length c.args.out.now)) all ∙ last_bytes 8 (length c.args.out.now) c.args.code c.requires

@@ -5,22 +5,22 @@ use Rattle.packed.specs.List.{entry_bytes}
 use Rattle.packed.proofs.Entries.{unpacked_code, entry-ok, entry-err}
 use Rattle.packed.proofs.list.get.Given as given
 use Rattle.packed.proofs.list.get.Goals as goal
-use Rattle.packed.proofs.list.get.Goals.{After-at-place}
+use Rattle.packed.proofs.list.get.Goals.{After-at_place}
 
 -- what the bytes at the place unpack to, with the place
-told : (g : given.Over) (c : After-at-place g) → c.at-place.result ≡ placed_fault c.args.place (g.E.PackedEntry.unpacked (entry_bytes g.E.PackedEntry.width c.args.bytes.now c.args.place))
+told : (g : given.Over) (c : After-at_place g) → c.at_place.result ≡ placed_fault c.args.place (g.E.PackedEntry.unpacked (entry_bytes g.E.PackedEntry.width c.args.bytes.now c.args.place))
 told g c =
     let at = c.in-Some.ensures in
-    c.at-place.ensures ∙ ap (placed_fault c.args.place) (c.unpack.ensures ∙ unpacked_code g.E.PackedEntry.width g.E.PackedEntry.unpacked c.args.bytes.now c.args.place c.in-Some.from c.size.result c.spell-code.result at.1 c.size.ensures at.2 c.spell-code.ensures.value c.spell-code.ensures.bytes)
+    c.at_place.ensures ∙ ap (placed_fault c.args.place) (c.unpack.ensures ∙ unpacked_code g.E.PackedEntry.width g.E.PackedEntry.unpacked c.args.bytes.now c.args.place c.in-Some.from c.size.result c.spell-code.result at.1 c.size.ensures at.2 c.spell-code.ensures.value c.spell-code.ensures.bytes)
 
-pub returns-in-err-entry : goal.returns-in-err-entry
-returns-in-err-entry g c =
-    let p = err_from_is_err_and c.from-residual.result c.from-residual.ensures.1 in
-    let t = told g (goal.at.returns-in-err-entry g c).After-at-place in
+pub returns-in_err-entry : goal.returns-in_err-entry
+returns-in_err-entry g c =
+    let p = err_from_is_err_and c.from_residual.result c.from_residual.ensures.1 in
+    let t = told g (goal.at.returns-in_err-entry g c).After-at_place in
     rw (p.1, p.2)
-    (entry-err g.E.PackedEntry.width g.E.PackedEntry.unpacked c.args.bytes.now c.args.place c.in-Some.ensures.0 c.in-err-entry.field-0.0 (sym t ∙ c.in-err-entry.was))
+    (entry-err g.E.PackedEntry.width g.E.PackedEntry.unpacked c.args.bytes.now c.args.place c.in-Some.ensures.0 c.in_err-entry.field-0.0 (sym t ∙ c.in_err-entry.was))
 
 pub returns : goal.returns
 returns g c =
-    let t = told g (goal.at.returns g c).After-at-place in
-    entry-ok g.E.PackedEntry.width g.E.PackedEntry.unpacked c.args.bytes.now c.args.place c.in-Some.ensures.0 c.in-ok-entry.entry (sym t ∙ c.in-ok-entry.was)
+    let t = told g (goal.at.returns g c).After-at_place in
+    entry-ok g.E.PackedEntry.width g.E.PackedEntry.unpacked c.args.bytes.now c.args.place c.in-Some.ensures.0 c.in_ok-entry.entry (sym t ∙ c.in_ok-entry.was)

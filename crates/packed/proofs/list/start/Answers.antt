@@ -2,8 +2,8 @@ use Rattle.std.proofs.Common.{ℕ, ◌*◌, ◌/◌, ◌<◌, ap, subst, arith}
 use Rattle.packed.proofs.Entries.{entry_within}
 use Rattle.packed.proofs.list.start.Goals as goal
 
-pub overflow-mul-result : goal.overflow-mul-result
-overflow-mul-result g c = omega (arith, entry_within c.args.len c.size-size.result c.args.place c.if-place-len.true)
+pub overflow_mul-result : goal.overflow_mul-result
+overflow_mul-result g c = omega (arith, entry_within c.args.len c.size-size.result c.args.place c.if-place-len.true)
 
 pub returns-then-place-len : goal.returns-then-place-len
 returns-then-place-len g c =

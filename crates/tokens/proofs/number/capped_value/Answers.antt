@@ -10,7 +10,7 @@ loop-b-preserved c =
     let base = c.args.base in
     let ds = c.args.digits.now in
     let i = c.loop-b.b-index in
-    let digit = c.from.ensures ∙ c.digit-value.ensures in
+    let digit = c.from.ensures ∙ c.digit_value.ensures in
     let more = digits_value_more base ds i c.loop-b-test.true in
     c.min-value.ensures ∙ (λ k. min (c.loop-b.invariant k * base + digit k) 4294967296) ∙ capped_more base (digits_value base (take i ds)) (digit_value (get_or ds i 0)) 4294967296 c.requires.low ∙ ap (λ n. min n 4294967296) (sym more)
 

@@ -11,7 +11,7 @@ loop-i-preserved c =
     let ps = pairs_in c.args.bytes.now in
     let n = pairs_length c.args.bytes.now in
     let inside : c.loop-i.i < length ps = omega (arith, c.min-count.ensures) in
-    filled_more ps c.args.list.now c.loop-i.list c.loop-i.i c.pair-from.result inside (omega (arith, c.min-count.ensures)) (c.pair-from.ensures ∙ pair_at c.args.bytes.now c.loop-i.i inside) c.loop-i.invariant
+    filled_more ps c.args.list.now c.loop-i.list c.loop-i.i c.pair_from.result inside (omega (arith, c.min-count.ensures)) (c.pair_from.ensures ∙ pair_at c.args.bytes.now c.loop-i.i inside) c.loop-i.invariant
 
 pub returns : goal.returns
 returns c =

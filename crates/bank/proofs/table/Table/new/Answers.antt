@@ -5,8 +5,8 @@ use Rattle.bank.proofs.table.Table.new.Goals as goal
 pub loop-i-init : goal.loop-i-init
 loop-i-init c = filled_none _ c.args.places.now c.empty.ensures.sized
 
-pub returns-in-default : goal.returns-in-default
-returns-in-default c = not_placeable_high c.args.places.now c.loop-i.i c.loop-i-test.true c.in-default.ensures
+pub returns-in_default : goal.returns-in_default
+returns-in_default c = not_placeable_high c.args.places.now c.loop-i.i c.loop-i-test.true c.in_default.ensures
 
 pub loop-i-preserved : goal.loop-i-preserved
 loop-i-preserved c =

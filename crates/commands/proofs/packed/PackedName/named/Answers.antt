@@ -15,15 +15,15 @@ unfolding packed_name_of
 returns-then-is-4 c =
     rw (sym c.if-is.ensures, sym c.if-is-2.ensures, sym c.if-is-3.ensures, sym c.if-is-4.ensures)
 
-pub returns-in-err-named : goal.returns-in-err-named
+pub returns-in_err-named : goal.returns-in_err-named
 unfolding packed_name_of
-returns-in-err-named c =
-    rw (sym c.if-is.ensures, sym c.if-is-2.ensures, sym c.if-is-3.ensures, sym c.if-is-4.ensures, c.from-residual.ensures, sym c.in-err-named.ensures)
+returns-in_err-named c =
+    rw (sym c.if-is.ensures, sym c.if-is-2.ensures, sym c.if-is-3.ensures, sym c.if-is-4.ensures, c.from_residual.ensures, sym c.in_err-named.ensures)
 
-pub returns-in-ok-named : goal.returns-in-ok-named
+pub returns-in_ok-named : goal.returns-in_ok-named
 unfolding packed_name_of
-returns-in-ok-named c =
-    rw (sym c.if-is.ensures, sym c.if-is-2.ensures, sym c.if-is-3.ensures, sym c.if-is-4.ensures, sym c.in-ok-named.ensures)
+returns-in_ok-named c =
+    rw (sym c.if-is.ensures, sym c.if-is-2.ensures, sym c.if-is-3.ensures, sym c.if-is-4.ensures, sym c.in_ok-named.ensures)
 
 pub returns-then-is : goal.returns-then-is
 unfolding packed_name_of

@@ -2,13 +2,13 @@ use Rattle.std.proofs.Common.{rules}
 use Rattle.commands.specs.Words.{number_of}
 use Rattle.commands.proofs.words.Words.number.Goals as goal
 
-pub returns-in-err-word : goal.returns-in-err-word
+pub returns-in_err-word : goal.returns-in_err-word
 unfolding number_of
-returns-in-err-word c = search rules
+returns-in_err-word c = search rules
 
-pub returns-in-err-read-number : goal.returns-in-err-read-number
+pub returns-in_err-read_number : goal.returns-in_err-read_number
 unfolding number_of
-returns-in-err-read-number c = search rules
+returns-in_err-read_number c = search rules
 
 pub returns : goal.returns
 unfolding number_of

@@ -11,8 +11,8 @@ returns-in-Err c =
 pub loop-word-preserved : goal.loop-word-preserved
 loop-word-preserved c =
     let e = taken _ _ _ c.in-Some.ensures.value c.in-Some.ensures.after in
-    c.loop-word.invariant ∙ counted _ _ _ _ (vec_items c.loop-word.numbers) e c.in-Ok.ensures ∙ ap (λ xs. then (numbers_of (left c.next.new.self)) (λ ns. Ok (xs ++ ns))) (sym c.in-ok-push.ensures.items)
+    c.loop-word.invariant ∙ counted _ _ _ _ (vec_items c.loop-word.numbers) e c.in-Ok.ensures ∙ ap (λ xs. then (numbers_of (left c.next.new.self)) (λ ns. Ok (xs ++ ns))) (sym c.in_ok-push.ensures.items)
 
 pub returns : goal.returns
 returns c =
-    none_counted _ (vec_items c.loop-word.numbers) c.in-default.ensures.value ∙ sym c.loop-word.invariant
+    none_counted _ (vec_items c.loop-word.numbers) c.in_default.ensures.value ∙ sym c.loop-word.invariant

@@ -2,9 +2,9 @@ use Rattle.std.proofs.Common.{rules}
 use Rattle.commands.specs.Words.{times_of}
 use Rattle.commands.proofs.words.Words.times.Goals as goal
 
-pub returns-in-err-number : goal.returns-in-err-number
+pub returns-in_err-number : goal.returns-in_err-number
 unfolding times_of
-returns-in-err-number c = search rules
+returns-in_err-number c = search rules
 
 pub returns-then-number-gt-MOST-TIMES : goal.returns-then-number-gt-MOST-TIMES
 unfolding times_of

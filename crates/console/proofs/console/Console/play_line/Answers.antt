@@ -37,12 +37,12 @@ returns-in-Ok c =
     let after = vec_items c.comply.new.out in
     let Comes : List ℕ → List ℕ → Next → Type 0 = λ text printed next. Complied s text command printed next c.comply.new.self in
     IfOk-weaker c.comply.result
-    (λ next. Appends before after (λ printed. Comes c.words-of-text.result.now printed next))
+    (λ next. Appends before after (λ printed. Comes c.words_of-text.result.now printed next))
     (λ next. Appends before after (λ printed. Played s words printed next c.comply.new.self))
-    (λ next a. let At : List ℕ → Type 0 = λ text. Comes text a.0 next in (a.0, a.1, inl (command, c.in-Ok.ensures ∙ ap command_of c.words-of-text.ensures, subst At c.words-of-text.ensures a.2)))
+    (λ next a. let At : List ℕ → Type 0 = λ text. Comes text a.0 next in (a.0, a.1, inl (command, c.in-Ok.ensures ∙ ap command_of c.words_of-text.ensures, subst At c.words_of-text.ensures a.2)))
     c.comply.ensures
 
 pub returns-in-Err : goal.returns-in-Err
 returns-in-Err c =
     let At : List ℕ → Type 0 = λ text. IfOk c.explain.result (λ next. Appends (vec_items c.args.out.now) (vec_items c.explain.new.out) (λ printed. Played c.args.self.now text printed next c.args.self.now)) in
-    subst At c.words-of-text.ensures (explained_played c.args.self.now c.words-of-text.result.now (vec_items c.args.out.now) (vec_items c.explain.new.out) c.in-Err.error c.explain.result c.in-Err.ensures c.explain.ensures)
+    subst At c.words_of-text.ensures (explained_played c.args.self.now c.words_of-text.result.now (vec_items c.args.out.now) (vec_items c.explain.new.out) c.in-Err.error c.explain.result c.in-Err.ensures c.explain.ensures)

@@ -3,8 +3,8 @@ use Rattle.cores.proofs.Tags.{count_next, count_few}
 use Rattle.cores.proofs.buffer.Buffer.tag_count.Goals as goal
 use Rattle.cores.proofs.buffer.Buffer.tag_count.Goals.{then-self-i, else-self-i}
 
-pub overflow-add-number : goal.overflow-add-number
-overflow-add-number c = let b = c.args.self.now in omega (arith, c.loop-i.invariant, b.few, count_few b.lines c.loop-i.i)
+pub overflow_add-number : goal.overflow_add-number
+overflow_add-number c = let b = c.args.self.now in omega (arith, c.loop-i.invariant, b.few, count_few b.lines c.loop-i.i)
 
 pub loop-i-preserved : goal.loop-i-preserved
 loop-i-preserved c =

@@ -12,19 +12,19 @@ loop-i-init c = copied_none c.args.self.now.lines c.args.list.now
 room : (c : Then-line) → c.loop-i.number < length c.loop-i.list
 room c =
     let b = c.args.self.now in
-    place-left b.lines c.loop-i.i c.args.list.now c.loop-i.list c.loop-i.number c.loop-i.invariant (omega (arith, b.few, b.sized)) b.used c.loop-i-test.true c.if-line.true (omega (arith, c.tag-count.ensures, c.if-tag-count-list.false))
+    place-left b.lines c.loop-i.i c.args.list.now c.loop-i.list c.loop-i.number c.loop-i.invariant (omega (arith, b.few, b.sized)) b.used c.loop-i-test.true c.if-line.true (omega (arith, c.tag_count.ensures, c.if-tag_count-list.false))
 
 few : (c : Then-line) → c.loop-i.number < 32
 few c = let b = c.args.self.now in omega (arith, c.loop-i.invariant.counted, b.few, count_few b.lines c.loop-i.i)
 
-pub offset-bounds-list-number : goal.offset-bounds-list-number
-offset-bounds-list-number c = omega (arith, few (goal.at.offset-bounds-list-number c).Then-line)
+pub offset_bounds-list_number : goal.offset_bounds-list_number
+offset_bounds-list_number c = omega (arith, few (goal.at.offset_bounds-list_number c).Then-line)
 
-pub bounds-list-number : goal.bounds-list-number
-bounds-list-number c = room (goal.at.bounds-list-number c).Then-line
+pub bounds-list_number : goal.bounds-list_number
+bounds-list_number c = room (goal.at.bounds-list_number c).Then-line
 
-pub overflow-add-number : goal.overflow-add-number
-overflow-add-number c = omega (arith, few (goal.at.overflow-add-number c).Then-line)
+pub overflow_add-number : goal.overflow_add-number
+overflow_add-number c = omega (arith, few (goal.at.overflow_add-number c).Then-line)
 
 pub loop-i-preserved : goal.loop-i-preserved
 loop-i-preserved c =
@@ -32,7 +32,7 @@ loop-i-preserved c =
     let within : c.loop-i.i < length b.lines = omega (arith, b.few, b.sized) in
     elim c.if-line.branch [
       | then-line w ↦
-          let left = place-left b.lines c.loop-i.i c.args.list.now c.loop-i.list c.loop-i.number c.loop-i.invariant within b.used c.loop-i-test.true w.if-line.true (omega (arith, c.tag-count.ensures, c.if-tag-count-list.false)) in
+          let left = place-left b.lines c.loop-i.i c.args.list.now c.loop-i.list c.loop-i.number c.loop-i.invariant within b.used c.loop-i-test.true w.if-line.true (omega (arith, c.tag_count.ensures, c.if-tag_count-list.false)) in
           simp (w.list-is, w.number-is) (copied-tagged b.lines c.loop-i.i c.args.list.now c.loop-i.list c.loop-i.number c.loop-i.invariant within w.if-line.true left)
       | else-line w ↦
           simp (w.list-is, w.number-is) (copied-plain b.lines c.loop-i.i c.args.list.now c.loop-i.list c.loop-i.number c.loop-i.invariant within w.if-line.false)
@@ -45,4 +45,4 @@ returns c =
     copied_all b.lines b.used c.args.list.now c.loop-i.list c.loop-i.number
     (subst (λ (n : ℕ). Copied b.lines n c.args.list.now c.loop-i.list c.loop-i.number) all c.loop-i.invariant)
     b.apart
-    (omega (arith, c.tag-count.ensures, c.if-tag-count-list.false))
+    (omega (arith, c.tag_count.ensures, c.if-tag_count-list.false))

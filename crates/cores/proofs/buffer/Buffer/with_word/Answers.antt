@@ -6,8 +6,8 @@ use Rattle.cores.proofs.buffer.Buffer.with_word.Goals as goal
 pub returns-then-index-self : goal.returns-then-index-self
 returns-then-index-self c = let b = c.args.self in unchanged b.lines b.used b.few b.sized c.args.index _ c.if-index-self.true
 
-pub invariant-of-result : goal.invariant-of-result
-invariant-of-result c =
+pub invariant_of-result : goal.invariant_of-result
+invariant_of-result c =
     let b = c.args.self in
     (b.few, (length-set b.lines c.args.index _ ∙ b.sized, (changed-apart b.lines b.used b.few b.sized (λ l. restored l c.args.value) c.args.index c.if-index-self.false (λ l. refl) b.apart, tt)))
 

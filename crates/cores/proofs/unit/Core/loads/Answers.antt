@@ -12,8 +12,8 @@ use Rattle.cores.proofs.Buffers.{not_held}
 use Rattle.cores.proofs.Steps.{load_found, load-new}
 use Rattle.cores.proofs.unit.Core.loads.Goals as goal
 
-pub with-line-requires : goal.with-line-requires
-with-line-requires c =
+pub with_line-requires : goal.with_line-requires
+with_line-requires c =
     (c.requires.0, c.requires.1, omega (arith, ap (λ (p : Place). p.pc) c.put.ensures), not_held (lines_of c.args.self.buffer) c.args.address (sym c.in-None.ensures))
 
 pub returns-in-Some : goal.returns-in-Some
@@ -30,6 +30,6 @@ pub returns-in-None : goal.returns-in-None
 returns-in-None c =
     let core = c.args.self in
     let s = c.args.scene in
-    c.with-line.ensures
+    c.with_line.ensures
     ∙ ap (λ (p : Place). with_line (scene_of s) (core_of core) p (loaded_line c.args.address s.word)) c.put.ensures
     ∙ load-new s (core_of core) c.args.address c.args.d (sym c.in-None.ensures)

@@ -12,8 +12,8 @@ use Rattle.cores.proofs.Buffers.{not_held}
 use Rattle.cores.proofs.Steps.{store_found, store-new}
 use Rattle.cores.proofs.unit.Core.stores.Goals as goal
 
-pub with-line-requires : goal.with-line-requires
-with-line-requires c =
+pub with_line-requires : goal.with_line-requires
+with_line-requires c =
     (c.requires.0, c.requires.1, omega (arith, ap (λ (p : Place). p.pc) c.next-in-None.ensures), not_held (lines_of c.args.self.buffer) c.args.address (sym c.in-None.ensures))
 
 pub returns-in-Some : goal.returns-in-Some
@@ -22,14 +22,14 @@ returns-in-Some c =
     let s = c.args.scene in
     c.becomes.ensures
     ∙ ap (λ (x : ModelCore). becomes (scene_of s) x Running) c.performed.ensures
-    ∙ ap (λ (p : Place). becomes (scene_of s) (performed (core_of core) p core.depth (lines_of c.with-word.result)) Running) c.next.ensures
-    ∙ ap (λ (ls : List Line). becomes (scene_of s) (performed (core_of core) (past core.place) core.depth ls) Running) c.with-word.ensures
+    ∙ ap (λ (p : Place). becomes (scene_of s) (performed (core_of core) p core.depth (lines_of c.with_word.result)) Running) c.next.ensures
+    ∙ ap (λ (ls : List Line). becomes (scene_of s) (performed (core_of core) (past core.place) core.depth ls) Running) c.with_word.ensures
     ∙ store_found s (core_of core) c.args.address c.args.word c.in-Some.index (sym c.in-Some.ensures)
 
 pub returns-in-None : goal.returns-in-None
 returns-in-None c =
     let core = c.args.self in
     let s = c.args.scene in
-    c.with-line.ensures
+    c.with_line.ensures
     ∙ ap (λ (p : Place). with_line (scene_of s) (core_of core) p (stored_line c.args.address c.args.word)) c.next-in-None.ensures
     ∙ store-new s (core_of core) c.args.address c.args.word (sym c.in-None.ensures)

@@ -5,7 +5,7 @@ use Rattle.desk.specs.Desks.{desk_engine}
 use Rattle.desk.proofs.Holding.{step_same}
 use Rattle.desk.proofs.desk.Desk.step.Goals as goal
 
-pub invariant-of-self : goal.invariant-of-self
-invariant-of-self g c =
+pub invariant_of-self : goal.invariant_of-self
+invariant_of-self g c =
     let d = c.args.self.now in
     (d.held ∙ sym (ap (λ (e : Engine). host_has e.token) c.step.ensures.after ∙ step_same (desk_engine g.M.Memory g.O.Outlet d) _), tt)

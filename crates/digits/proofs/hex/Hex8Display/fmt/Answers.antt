@@ -4,4 +4,4 @@ use Rattle.digits.proofs.hex.Hex8Display.fmt.Goals as goal
 
 pub returns-clause-writes : goal.returns-clause-writes
 returns-clause-writes g c =
-    λ plain ok. has_written_of_eq g.W.Write.write_str_gives _ _ _ _ (eight_digits c.args.self.now.0 c.to-be-bytes.result c.to-be-bytes.ensures) (c.write.ensures.writes plain ok)
+    λ plain ok. has_written_of_eq g.W.Write.write_str_gives _ _ _ _ (eight_digits c.args.self.now.0 c.to_be_bytes.result c.to_be_bytes.ensures) (c.write.ensures.writes plain ok)

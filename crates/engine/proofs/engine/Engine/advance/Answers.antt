@@ -14,11 +14,11 @@ use Rattle.engine.proofs.engine.Engine.advance.Goals as goal
 pub returns : goal.returns
 returns g c =
     let e = engine_of g.M.Memory g.O.Outlet c.args.self.now in
-    let f = engine_of g.M.Memory g.O.Outlet c.move-core-outcome.new.self in
+    let f = engine_of g.M.Memory g.O.Outlet c.move_core-outcome.new.self in
     let i = c.args.i in
     let same : outcome (scene_view (instructions_of c.args.self.now.program) c.scene-scene.result) (core_at e i) ≡ outcome_of e i = ap (λ (v : View). outcome v (core_at e i)) c.scene-scene.ensures ∙ sym (outcome-over (view_of e i) (core_at e i)) in
-    let moved : Moved e f i c.move-core-outcome.result (outcome_of e i) = subst (λ (o : ModelOutcome). Moved e f i c.move-core-outcome.result o) same c.move-core-outcome.ensures in
+    let moved : Moved e f i c.move_core-outcome.result (outcome_of e i) = subst (λ (o : ModelOutcome). Moved e f i c.move_core-outcome.result o) same c.move_core-outcome.ensures in
     record {
-      after = c.apply.ensures ∙ moved_applied e f i c.move-core-outcome.result (outcome_of e i) moved c.requires.1 (step_roomy (view_of e i) (core_at e i));
+      after = c.apply.ensures ∙ moved_applied e f i c.move_core-outcome.result (outcome_of e i) moved c.requires.1 (step_roomy (view_of e i) (core_at e i));
       answer = moved.answer;
     }

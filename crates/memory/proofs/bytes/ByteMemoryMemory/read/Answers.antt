@@ -5,12 +5,12 @@ use Rattle.memory.proofs.Images.{image_reads}
 use Rattle.memory.proofs.Quads.{quad_inside}
 use Rattle.memory.proofs.bytes.ByteMemoryMemory.read.Goals as goal
 
-pub word-from-requires : goal.word-from-requires
-word-from-requires c = quad_inside c.args.self.now.bytes.now c.args.address (omega arith)
+pub word_from-requires : goal.word_from-requires
+word_from-requires c = quad_inside c.args.self.now.bytes.now c.args.address (omega arith)
 
 pub returns-then-address-len : goal.returns-then-address-len
 returns-then-address-len c =
-    image_reads c.args.self.now.bytes.now c.args.address c.word-from.result (omega arith) c.word-from.ensures
+    image_reads c.args.self.now.bytes.now c.args.address c.word_from.result (omega arith) c.word_from.ensures
 
 pub returns-else-address-len : goal.returns-else-address-len
 returns-else-address-len c = reads_outside (memory_in c.args.self.now.bytes.now) c.args.address (omega arith)

@@ -6,8 +6,8 @@ use Rattle.memory.proofs.Quads.{quad_inside}
 use Rattle.memory.proofs.Images.{image-words, image-beside, image-inside, image_outside}
 use Rattle.memory.proofs.bytes.ByteMemoryMemory.write.Goals as goal
 
-pub put-word-requires : goal.put-word-requires
-put-word-requires c = quad_inside c.args.self.now.bytes.now c.args.address (omega arith)
+pub put_word-requires : goal.put_word-requires
+put_word-requires c = quad_inside c.args.self.now.bytes.now c.args.address (omega arith)
 
 pub returns-then-address-len : goal.returns-then-address-len
 returns-then-address-len c =
@@ -16,7 +16,7 @@ returns-then-address-len c =
     let w = c.args.word in
     let h : a < length (memory_in bytes) = omega arith in
     let f : w < 4294967296 = omega arith in
-    let e = c.put-word.ensures in
+    let e = c.put_word.ensures in
     record {
       value = answers_inside (memory_in bytes) a h;
       after = ap memory_in e ∙ image-words bytes a w f h;

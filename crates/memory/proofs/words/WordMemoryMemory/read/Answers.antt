@@ -7,8 +7,8 @@ use Rattle.memory.proofs.words.WordMemoryMemory.read.Goals as goal
 inside : (c : goal.Then-address-len) → c.args.address < length (memory_of c.args.self.now.all.now)
 inside c = omega arith
 
-pub offset-bounds-self-address : goal.offset-bounds-self-address
-offset-bounds-self-address c =
+pub offset_bounds-self-address : goal.offset_bounds-self-address
+offset_bounds-self-address c =
     let h : c.args.address < 65536 = below_bound 65536 c.args.self.now.all.now c.args.address (inside c) in omega arith
 
 pub bounds-self-address : goal.bounds-self-address

@@ -20,13 +20,13 @@ returns-in-Some c =
     let t = lt-ltb r.count r.places h in
     let n : c.claim.new.self.count ≡ r.count + 1 = c.claim.ensures.count ∙ rw t in
     let at = 5 * c.in-Some.place in
-    let p = c.bytes-of.result in
+    let p = c.bytes_of.result in
     let new = set (set (set (set (set bs at (get_or p 0 0)) (at + 1) (get_or p 1 0)) (at + 2) (get_or p 2 0)) (at + 3) (get_or p 3 0)) (at + 4) (get_or p 4 0) in
     let k = claimed-inside bs r.places r.first r.count c.in-Some.place o.whole r.inside v in
-    let l : length p ≡ 5 = ap length c.bytes-of.ensures ∙ (bytes_sized 5 (sent_code c.args.entry)).0 in
+    let l : length p ≡ 5 = ap length c.bytes_of.ensures ∙ (bytes_sized 5 (sent_code c.args.entry)).0 in
     let put : new ≡ with_entry 5 (sent_bytes c.args.entry) bs c.in-Some.place =
     five_put bs c.in-Some.place (get_or p 0 0) (get_or p 1 0) (get_or p 2 0) (get_or p 3 0) (get_or p 4 0) k
-    ∙ ap (λ (q : List ℕ). with_entry 5 q bs c.in-Some.place) (sym (five_of p l) ∙ c.bytes-of.ensures) in
+    ∙ ap (λ (q : List ℕ). with_entry 5 q bs c.in-Some.place) (sym (five_of p l) ∙ c.bytes_of.ensures) in
     record {
       value = claimed-answer r.places r.first r.count c.in-Some.place v;
       after = ap (ring_of (entries_in new) c.claim.new.self.first) n

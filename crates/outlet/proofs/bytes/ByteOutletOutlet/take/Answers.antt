@@ -24,7 +24,7 @@ returns-in-Some c =
     let t = lt-ltb 0 r.count (released-some r.first r.count c.in-Some.place v) in
     let f : c.release.new.self.first ≡ wrapped r.places (r.first + 1) = c.release.ensures.first ∙ rw t in
     record {
-      value = ap Ok (c.entry-of.ensures ∙ ap (λ (l : List ℕ). sent_of (spelled l)) (five_read bs c.in-Some.place (released-inside bs r.places r.first r.count c.in-Some.place o.whole r.inside r.filled v)) ∙ image-takes bs r.places r.first r.count c.in-Some.place o.whole r.inside r.filled v none)
+      value = ap Ok (c.entry_of.ensures ∙ ap (λ (l : List ℕ). sent_of (spelled l)) (five_read bs c.in-Some.place (released-inside bs r.places r.first r.count c.in-Some.place o.whole r.inside r.filled v)) ∙ image-takes bs r.places r.first r.count c.in-Some.place o.whole r.inside r.filled v none)
           ∙ takes (entries_in bs) r.places r.first r.count c.in-Some.place none long r.inside r.filled v;
       after = ap (λ i. ring_of (entries_in bs) i c.release.new.self.count) f
           ∙ ap (ring_of (entries_in bs) (wrapped r.places (r.first + 1))) c.release.ensures.count

@@ -11,9 +11,9 @@ few : (bs : List ℕ) → length (found bs) ≤ 9
 unfolding found
 few bs = simp length-take (omega arith)
 
-pub invariant-of-result-2 : goal.invariant-of-result-2
+pub invariant_of-result-2 : goal.invariant_of-result-2
 unfolding found
-invariant-of-result-2 c = let h = few c.args.bytes.now in (omega (arith, c.pairs-count.ensures.count), (omega (arith, c.pairs-count.auto.list), tt))
+invariant_of-result-2 c = let h = few c.args.bytes.now in (omega (arith, c.pairs-count.ensures.count), (omega (arith, c.pairs-count.auto.list), tt))
 
 pub returns : goal.returns
 unfolding found
