@@ -3,9 +3,9 @@
 
 usage: respell.py [--dry-run]      at the top of the repository
 
-A name is turned where it is declared at the head of a line in an .antt file and begins with a small letter: `programAt`
-and `program-at` become `program_at`. Names of types and of facts, which begin with a capital, variants, names that the
-check asks for (`loop-i-preserved : goal.loop-i-preserved`), functions of src/, strings and prose keep their spelling.
+A name is turned where it is declared at the head of a line in an .antt file, or a step in, and begins with a small
+letter: `programAt` and `program-at` become `program_at`. Names of types and of facts, which begin with a capital,
+variants, names that the check asks for (`loop-i-preserved : goal.loop-i-preserved`), functions of src/, strings and prose keep their spelling.
 It stops, and writes nothing, where two names would fall together.
 """
 
@@ -25,6 +25,7 @@ CHOSEN = {
     "ifFree": "if_free",
     "if-free": "if_free_lem",
     "in-range": "in_range_lem",
+    "loads-line": "loads_line_lem",
     "newCores": "new_cores",
     "new-cores": "new_cores_lem",
     "noA": "no_a_lem",
@@ -34,11 +35,12 @@ CHOSEN = {
     "oneMore": "after_one_more",
     "rollBack": "roll_back",
     "roll-back": "roll_back_lem",
+    "stores-line": "stores_line_lem",
     "word-at": "quad_word_at",
 }
 
 HEAD = re.compile(r"^(?:abbrev |unfoldable )?(?:pub )?(?:abbrev )?([^\s:=]+(?: +[^\s:=]+)*) :(?:\s+(.*)|$)")
-FIELD = re.compile(r"^  (?:pub )?([a-z][^\s:=]*(?: +[a-z][^\s:=]*)*) : ")
+FIELD = re.compile(r"^  (?:pub )?((?!let |in )[a-z][^\s:=]*(?: +[a-z][^\s:=]*)*) : ")
 LOOSE = ("use ", "pub use ", "mod ", "pub mod ", "unfolding ", "data ", "pub data ", "record ", "pub record ", "infix", "--")
 TOKEN = re.compile(r"[A-Za-z_][A-Za-z0-9_'₀-₉ℓℕℤ]*(?:[-][A-Za-z0-9_'*+≤<≡ℕℤ][A-Za-z0-9_'*+≤<≡ℕℤ]*)*")
 # What a definition's name could be taken for: in antt any word that is no part of a path, in code a parameter, a field or a constant.
@@ -74,7 +76,7 @@ def declared(root):
             if m := HEAD.match(line):
                 into = asked if re.match(r"(?:\{[^}]*\} *→ *)?(?:the_)?goal\.", m[2] or "") else own
                 into.update(n for n in m[1].split() if PLAIN.match(n))
-            elif (m := FIELD.match(line)) and "/specs/" in p:
+            elif m := FIELD.match(line):
                 own.update(n for n in m[1].split() if PLAIN.match(n))
     return {n for n in own - asked if re.search(r"[A-Z-]", n)}
 

@@ -39,11 +39,11 @@ module _ (w a : ℕ) (cores olds : List Core) (i : ℕ) (within : i < length old
   inside : i < length (map core_of olds)
   inside = omega (arith, length-map olds core_of)
 
-  inside-aim : i < length (others_hit w a (map core_of olds))
-  inside-aim = omega (arith, hit_length w a (map core_of olds), inside)
+  inside_aim : i < length (others_hit w a (map core_of olds))
+  inside_aim = omega (arith, hit_length w a (map core_of olds), inside)
 
   front : length (take i (others_hit w a (map core_of olds))) ≡ i
-  front = length-take-le i (others_hit w a (map core_of olds)) (omega (arith, inside-aim))
+  front = length-take-le i (others_hit w a (map core_of olds)) (omega (arith, inside_aim))
 
   opened : map core_of cores ≡ take i (others_hit w a (map core_of olds)) ++ (get_or (map core_of olds) i blank ∷ drop (i + 1) (map core_of olds))
   opened = sofar ∙ ap (λ l. take i (others_hit w a (map core_of olds)) ++ l) (drop_more (map core_of olds) i blank inside)
@@ -57,7 +57,7 @@ module _ (w a : ℕ) (cores olds : List Core) (i : ℕ) (within : i < length old
   -- the writer is passed over
   pub passed : i ≡ w → map core_of cores ≡ take (i + 1) (others_hit w a (map core_of olds)) ++ drop (i + 1) (map core_of olds)
   passed e =
-      opened ∙ shift (others_hit w a (map core_of olds)) (map core_of olds) i (get_or (map core_of olds) i blank) inside-aim (sym (ap (λ k. get_or (others_hit w a (map core_of olds)) k blank) e ∙ hit_writer w a (map core_of olds) ∙ ap (λ k. get_or (map core_of olds) k blank) (sym e)))
+      opened ∙ shift (others_hit w a (map core_of olds)) (map core_of olds) i (get_or (map core_of olds) i blank) inside_aim (sym (ap (λ k. get_or (others_hit w a (map core_of olds)) k blank) e ∙ hit_writer w a (map core_of olds) ∙ ap (λ k. get_or (map core_of olds) k blank) (sym e)))
 
   -- another core is told
   pub told : (x new : Core) → (i ≡ w → ⊥) → core_of new ≡ hit_at a (core_of (get_or cores i x)) → map core_of (set cores i new) ≡ take (i + 1) (others_hit w a (map core_of olds)) ++ drop (i + 1) (map core_of olds)
@@ -65,7 +65,7 @@ module _ (w a : ℕ) (cores olds : List Core) (i : ℕ) (within : i < length old
       let v : core_of new ≡ get_or (others_hit w a (map core_of olds)) i blank = is ∙ ap (hit_at a) (here x) ∙ sym (hit_other w a (map core_of olds) i inside ne) in
       map-set core_of cores i new ∙ ap (λ l. set l i (core_of new)) opened
       ∙ set_at (take i (others_hit w a (map core_of olds))) (get_or (map core_of olds) i blank) (drop (i + 1) (map core_of olds)) (core_of new) i front
-      ∙ shift (others_hit w a (map core_of olds)) (map core_of olds) i (core_of new) inside-aim v
+      ∙ shift (others_hit w a (map core_of olds)) (map core_of olds) i (core_of new) inside_aim v
 
 -- all are told
 pub all_told : (w a : ℕ) (cores olds : List Core) (i : ℕ) → length olds ≤ i → map core_of cores ≡ take i (others_hit w a (map core_of olds)) ++ drop i (map core_of olds) → map core_of cores ≡ others_hit w a (map core_of olds)

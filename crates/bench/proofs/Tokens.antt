@@ -80,14 +80,14 @@ module _ (v : View) (c : Core) where
   early_commit_same Restarts = finished
   early_commit_same TakesToken = refl
 
-  state-same : (s : State) → Same v.token (step_by_state s v c)
-  state-same Bypass = bypass_same (outer_at v.program (length v.memory) c.place)
-  state-same Transaction = transaction_same (inner_of v c)
-  state-same Commit = by_test v.token (any_dirty (left c.lines)) _ _ refl finished
-  state-same Abort = refl
-  state-same EarlyFlush = by_test v.token (any_dirty (left c.lines)) _ _ refl refl
-  state-same EarlyCommit = early_commit_same (inner_of v c)
-  state-same Stopped = refl
+  state_same : (s : State) → Same v.token (step_by_state s v c)
+  state_same Bypass = bypass_same (outer_at v.program (length v.memory) c.place)
+  state_same Transaction = transaction_same (inner_of v c)
+  state_same Commit = by_test v.token (any_dirty (left c.lines)) _ _ refl finished
+  state_same Abort = refl
+  state_same EarlyFlush = by_test v.token (any_dirty (left c.lines)) _ _ refl refl
+  state_same EarlyCommit = early_commit_same (inner_of v c)
+  state_same Stopped = refl
 
 -- a step
 pub step_same : (e : Engine) (i : ℕ) → host_has (step e i).engine.token ≡ host_has e.token
@@ -95,7 +95,7 @@ step_same e i =
     let P : After (Result Answer StepRefusal) → Type 0 = λ a. host_has a.engine.token ≡ host_has e.token in
     cond_both (ltb i (length e.cores)) (cond (leb (length e.entries + wanted e.token i) 1024) (stepped e i) (stays e (Err RecordFull))) (stays e (Err NoSuchCore)) P
     (λ _. cond_both (leb (length e.entries + wanted e.token i) 1024) (stepped e i) (stays e (Err RecordFull)) P
-    (λ _. state-same (view_of e i) (core_at e i) (core_at e i).state)
+    (λ _. state_same (view_of e i) (core_at e i) (core_at e i).state)
     (λ _. refl))
     (λ _. refl)
 

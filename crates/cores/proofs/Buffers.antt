@@ -177,8 +177,8 @@ module _ (lines : List Line) (used : ℕ) (few : used ≤ 32) (sized : length li
   pub front_length : length (take used lines) ≡ used
   front_length = length-take-le used lines (omega arith)
 
-  pub front-past : (i : ℕ) → used ≤ i → no_line ≡ line_at (take used lines) i
-  front-past i h = let long = front_length in sym (get_or_past (take used lines) i no_line (omega arith))
+  pub front_past : (i : ℕ) → used ≤ i → no_line ≡ line_at (take used lines) i
+  front_past i h = let long = front_length in sym (get_or_past (take used lines) i no_line (omega arith))
 
   -- a line past the end does not change
   pub unchanged : (i : ℕ) (k : Line) → used ≤ i → take used lines ≡ set (take used lines) i k
@@ -189,15 +189,15 @@ module _ (lines : List Line) (used : ℕ) (few : used ≤ 32) (sized : length li
   changed f i h = take_set_front used lines i (f (line_at lines i)) ∙ ap (λ l. set (take used lines) i (f l)) (sym (get_or-take used lines i no_line h))
 
   -- and stays where it is
-  pub changed-apart : (f : Line → Line) (i : ℕ) → i < used → ((l : Line) → (f l).address ≡ l.address) → distinct (take used lines) ≡ true → distinct (take used (set lines i (f (line_at lines i)))) ≡ true
-  changed-apart f i h same d = ap distinct (changed f i h) ∙ distinct_set (take used lines) i _ (same _) d
+  pub changed_apart : (f : Line → Line) (i : ℕ) → i < used → ((l : Line) → (f l).address ≡ l.address) → distinct (take used lines) ≡ true → distinct (take used (set lines i (f (line_at lines i)))) ≡ true
+  changed_apart f i h same d = ap distinct (changed f i h) ∙ distinct_set (take used lines) i _ (same _) d
 
   -- one line more
   pub pushed : (k : Line) → length (take used lines) < 32 → take (used + 1) (set lines used k) ≡ take used lines ++ k ∷ []
   pushed k h = let long = front_length in take_more_set lines used k (omega arith)
 
-  pub pushed-apart : (k : Line) → length (take used lines) < 32 → holds (take used lines) k.address ≡ false → distinct (take used lines) ≡ true → distinct (take (used + 1) (set lines used k)) ≡ true
-  pushed-apart k h n d = ap distinct (pushed k h) ∙ distinct_push (take used lines) k n d
+  pub pushed_apart : (k : Line) → length (take used lines) < 32 → holds (take used lines) k.address ≡ false → distinct (take used lines) ≡ true → distinct (take (used + 1) (set lines used k)) ≡ true
+  pushed_apart k h n d = ap distinct (pushed k h) ∙ distinct_push (take used lines) k n d
 
 -- whether a line is dirty, by the search for it
 pub dirty_found : (ls : List Line) → is_some (dirty_index ls) ≡ any_dirty ls

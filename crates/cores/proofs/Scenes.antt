@@ -69,66 +69,66 @@ module _ (v : View) (c : Core) where
   abbrev word : ℕ
   word = get_or v.memory at 0
 
-  outerAt-from : OuterFrom at (length v.memory) (outer_at v.program (length v.memory) c.place)
+  outer_at_from : OuterFrom at (length v.memory) (outer_at v.program (length v.memory) c.place)
   unfolding outer_at
-  outerAt-from = outer_from (length v.memory) (asks v.program c.place)
+  outer_at_from = outer_from (length v.memory) (asks v.program c.place)
 
-  innerAt-from : InnerFrom at (length v.memory) (inner_at v.program (length v.memory) c.place c.depth c.count)
+  inner_at_from : InnerFrom at (length v.memory) (inner_at v.program (length v.memory) c.place c.depth c.count)
   unfolding inner_at
-  innerAt-from = elim (cases_Bool (ltb c.count 4096)) [ inl t ↦ rw t (inner_from (length v.memory) c.place c.depth (asks v.program c.place)) | inr t ↦ rw t tt ]
+  inner_at_from = elim (cases_Bool (ltb c.count 4096)) [ inl t ↦ rw t (inner_from (length v.memory) c.place c.depth (asks v.program c.place)) | inr t ↦ rw t tt ]
 
   same_word : (b : ℕ) → b ≡ at → b < length v.memory → get_or v.memory b 0 ≡ get_or (replicate (length v.memory) word) b 0
   same_word b e h = ap (λ a. get_or v.memory a 0) e ∙ sym (get_or-replicate (length v.memory) b word 0 h)
 
-  bypass-over : (o : Outer) → OuterFrom at (length v.memory) o → in_bypass v c o ≡ in_bypass (over_word v word) c o
-  bypass-over (OuterFaults f) h = refl
-  bypass-over (OuterMoves p) h = refl
-  bypass-over (OuterLoads b k) h = rw (same_word b h.0 h.1)
-  bypass-over (OuterStores b w) h = refl
-  bypass-over (OuterSends e) h = refl
-  bypass-over Opens h = refl
-  bypass-over Stops h = refl
+  bypass_over : (o : Outer) → OuterFrom at (length v.memory) o → in_bypass v c o ≡ in_bypass (over_word v word) c o
+  bypass_over (OuterFaults f) h = refl
+  bypass_over (OuterMoves p) h = refl
+  bypass_over (OuterLoads b k) h = rw (same_word b h.0 h.1)
+  bypass_over (OuterStores b w) h = refl
+  bypass_over (OuterSends e) h = refl
+  bypass_over Opens h = refl
+  bypass_over Stops h = refl
 
-  transaction-over : (o : Inner) → InnerFrom at (length v.memory) o → in_transaction v c o ≡ in_transaction (over_word v word) c o
-  transaction-over (InnerFaults f) h = refl
-  transaction-over (InnerMoves p d) h = refl
-  transaction-over (InnerLoads b k) h = rw (same_word b h.0 h.1)
-  transaction-over (InnerStores b w) h = refl
-  transaction-over (InnerSends e) h = refl
-  transaction-over Closes h = refl
-  transaction-over Restarts h = refl
-  transaction-over TakesToken h = refl
+  transaction_over : (o : Inner) → InnerFrom at (length v.memory) o → in_transaction v c o ≡ in_transaction (over_word v word) c o
+  transaction_over (InnerFaults f) h = refl
+  transaction_over (InnerMoves p d) h = refl
+  transaction_over (InnerLoads b k) h = rw (same_word b h.0 h.1)
+  transaction_over (InnerStores b w) h = refl
+  transaction_over (InnerSends e) h = refl
+  transaction_over Closes h = refl
+  transaction_over Restarts h = refl
+  transaction_over TakesToken h = refl
 
-  early-over : (o : Inner) → InnerFrom at (length v.memory) o → in_early_commit v c o ≡ in_early_commit (over_word v word) c o
-  early-over (InnerFaults f) h = refl
-  early-over (InnerMoves p d) h = refl
-  early-over (InnerLoads b k) h = rw (same_word b h.0 h.1)
-  early-over (InnerStores b w) h = refl
-  early-over (InnerSends e) h = refl
-  early-over Closes h = refl
-  early-over Restarts h = refl
-  early-over TakesToken h = refl
+  early_over : (o : Inner) → InnerFrom at (length v.memory) o → in_early_commit v c o ≡ in_early_commit (over_word v word) c o
+  early_over (InnerFaults f) h = refl
+  early_over (InnerMoves p d) h = refl
+  early_over (InnerLoads b k) h = rw (same_word b h.0 h.1)
+  early_over (InnerStores b w) h = refl
+  early_over (InnerSends e) h = refl
+  early_over Closes h = refl
+  early_over Restarts h = refl
+  early_over TakesToken h = refl
 
   by_state : (s : State) → step_by_state s v c ≡ step_by_state s (over_word v word) c
   by_state Bypass =
-      bypass-over (outer_at v.program (length v.memory) c.place) outerAt-from
+      bypass_over (outer_at v.program (length v.memory) c.place) outer_at_from
       ∙ ap (λ n. in_bypass (over_word v word) c (outer_at v.program n c.place)) (sym (length-replicate (length v.memory) word))
   by_state Transaction =
-      transaction-over (inner_at v.program (length v.memory) c.place c.depth c.count) innerAt-from
+      transaction_over (inner_at v.program (length v.memory) c.place c.depth c.count) inner_at_from
       ∙ ap (λ n. in_transaction (over_word v word) c (inner_at v.program n c.place c.depth c.count)) (sym (length-replicate (length v.memory) word))
   by_state Commit = refl
   by_state Abort = refl
   by_state EarlyFlush = refl
   by_state EarlyCommit =
-      early-over (inner_at v.program (length v.memory) c.place c.depth c.count) innerAt-from
+      early_over (inner_at v.program (length v.memory) c.place c.depth c.count) inner_at_from
       ∙ ap (λ n. in_early_commit (over_word v word) c (inner_at v.program n c.place c.depth c.count)) (sym (length-replicate (length v.memory) word))
   by_state Stopped = refl
 
   -- a step comes to the same over the one word that it looks at
-  pub outcome-over : outcome v c ≡ outcome (over_word v (get_or v.memory (load_address v.program c.place) 0)) c
-  outcome-over = by_state c.state
+  pub outcome_over : outcome v c ≡ outcome (over_word v (get_or v.memory (load_address v.program c.place) 0)) c
+  outcome_over = by_state c.state
 
   -- and so over a scene that agrees with the view: the right side is what `scene_view` makes of it
-  pub outcome-seen : {capacity words word room : ℕ} {token : Token} {self : ℕ} → v.capacity ≡ capacity → length v.memory ≡ words → get_or v.memory (load_address v.program c.place) 0 ≡ word → v.room ≡ room → v.token ≡ token → v.self ≡ self → outcome v c ≡ outcome (record { program = v.program; capacity = capacity; memory = replicate words word; room = room; token = token; self = self }) c
-  outcome-seen capacity words word room token self =
-      outcome-over ∙ λ i. outcome (record { program = v.program; capacity = capacity i; memory = replicate (words i) (word i); room = room i; token = token i; self = self i }) c
+  pub outcome_seen : {capacity words word room : ℕ} {token : Token} {self : ℕ} → v.capacity ≡ capacity → length v.memory ≡ words → get_or v.memory (load_address v.program c.place) 0 ≡ word → v.room ≡ room → v.token ≡ token → v.self ≡ self → outcome v c ≡ outcome (record { program = v.program; capacity = capacity; memory = replicate words word; room = room; token = token; self = self }) c
+  outcome_seen capacity words word room token self =
+      outcome_over ∙ λ i. outcome (record { program = v.program; capacity = capacity i; memory = replicate (words i) (word i); room = room i; token = token i; self = self i }) c

@@ -22,13 +22,13 @@ first_none test (l ∷ ls) all =
 
 -- the same of the front of a longer list, with what stands past the end left open
 module _ (test : Line → Bool) (ls : List Line) (n : ℕ) (h : n ≤ length ls) where
-  pub front-here : (i : ℕ) (x : Line) → i < n → ((k : ℕ) → k < i → test (get_or ls k no_line) ≡ false) → test (get_or ls i x) ≡ true → Some i ≡ first_index test (take n ls)
-  front-here i x lt before here =
+  pub front_here : (i : ℕ) (x : Line) → i < n → ((k : ℕ) → k < i → test (get_or ls k no_line) ≡ false) → test (get_or ls i x) ≡ true → Some i ≡ first_index test (take n ls)
+  front_here i x lt before here =
       first_here test (take n ls) i (omega (arith, length-take-le n ls h))
       (λ k kt. ap test (get_or-take n ls k no_line (omega arith)) ∙ before k kt)
       (ap test (get_or-take n ls i no_line lt ∙ get_or_default ls i no_line x (omega arith)) ∙ here)
 
-  pub front-none : ((k : ℕ) → k < n → test (get_or ls k no_line) ≡ false) → None ≡ first_index test (take n ls)
-  front-none all =
+  pub front_none : ((k : ℕ) → k < n → test (get_or ls k no_line) ≡ false) → None ≡ first_index test (take n ls)
+  front_none all =
       let long = length-take-le n ls h in
       first_none test (take n ls) (λ k lt. ap test (get_or-take n ls k no_line (omega arith)) ∙ all k (omega arith))

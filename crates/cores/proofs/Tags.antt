@@ -46,8 +46,8 @@ module _ (lines : List Line) (i : ℕ) (h : i < length lines) where
   pub count_next : tag_count (take (i + 1) lines) ≡ cond (line_at lines i).tag (tag_count (take i lines) + 1) (tag_count (take i lines))
   count_next = ap tag_count (take_more lines i no_line h) ∙ count_push (take i lines) (line_at lines i)
 
-  pub tags-next : tags_of (take (i + 1) lines) ≡ cond (line_at lines i).tag (tags_of (take i lines) ++ (line_at lines i).address ∷ []) (tags_of (take i lines))
-  tags-next = ap tags_of (take_more lines i no_line h) ∙ tags_push (take i lines) (line_at lines i)
+  pub tags_next : tags_of (take (i + 1) lines) ≡ cond (line_at lines i).tag (tags_of (take i lines) ++ (line_at lines i).address ∷ []) (tags_of (take i lines))
+  tags_next = ap tags_of (take_more lines i no_line h) ∙ tags_push (take i lines) (line_at lines i)
 
 -- there are no more tags than lines
 pub count_few : (ls : List Line) (i : ℕ) → tag_count (take i ls) ≤ i
@@ -69,11 +69,11 @@ copied_none lines before = record { counted = refl; size = refl; front = refl; r
 
 module _ (lines : List Line) (i : ℕ) (before after : List ℕ) (number : ℕ) (sofar : Copied lines i before after number) (h : i < length lines) where
   -- a tagged line more
-  pub copied-tagged : (line_at lines i).tag ≡ true → number < length after → Copied lines (i + 1) before (set after number (line_at lines i).address) (number + 1)
-  copied-tagged t lt =
+  pub copied_tagged : (line_at lines i).tag ≡ true → number < length after → Copied lines (i + 1) before (set after number (line_at lines i).address) (number + 1)
+  copied_tagged t lt =
       let a = (line_at lines i).address in
       let count = rw t at (count_next lines i h) in
-      let tags = rw t at (tags-next lines i h) in
+      let tags = rw t at (tags_next lines i h) in
       record {
         counted = ap (λ n. n + 1) sofar.counted ∙ sym count;
         size = length-set after number a ∙ sofar.size;
@@ -82,15 +82,15 @@ module _ (lines : List Line) (i : ℕ) (before after : List ℕ) (number : ℕ) 
       }
 
   -- an untagged line more
-  pub copied-plain : (line_at lines i).tag ≡ false → Copied lines (i + 1) before after number
-  copied-plain t =
+  pub copied_plain : (line_at lines i).tag ≡ false → Copied lines (i + 1) before after number
+  copied_plain t =
       let count = rw t at (count_next lines i h) in
-      let tags = rw t at (tags-next lines i h) in
+      let tags = rw t at (tags_next lines i h) in
       record { counted = sofar.counted ∙ sym count; size = sofar.size; front = sofar.front ∙ sym tags; rest = sofar.rest }
 
   -- a tagged line finds a place in a list that has one for each
-  pub place-left : (used : ℕ) → i < used → (line_at lines i).tag ≡ true → tag_count (take used lines) ≤ length before → number < length after
-  place-left used lt t enough =
+  pub place_left : (used : ℕ) → i < used → (line_at lines i).tag ≡ true → tag_count (take used lines) ≤ length before → number < length after
+  place_left used lt t enough =
       let count = rw t at (count_next lines i h) in
       omega (arith, sofar.counted, sofar.size, count, count_front lines (i + 1) used (omega arith))
 

@@ -10,7 +10,7 @@ use Rattle.engine.specs.Engines.{engine_of}
 use Rattle.desk.specs.declared.desk.Desk.{Desk}
 
 -- the engine, by what its memory and its outlet mean
-abbrev pub desk_engine : {M O : Type 0} → MemoryGhosts M → OutletGhosts O → Desk M O → ModelEngine
+abbrev pub desk_engine : {M O : Type 0} (m : MemoryGhosts M) (o : OutletGhosts O) → Desk M O m o → ModelEngine
 desk_engine m o d = engine_of m o d.engine
 
 -- the calls of a list that are played: as many as there are places for replies

@@ -14,8 +14,8 @@ module _ (ps : List ℕ) (n i : ℕ) (sofar : all_below (drop i ps) n ≡ all_be
       sym (e ∙ rw (lt-ltb (get_or ps i 0) n lt)) ∙ sofar
 
   -- a place that is not below
-  pub below-stop : i < length ps → n ≤ get_or ps i 0 → false ≡ all_below ps n
-  below-stop h le =
+  pub below_stop : i < length ps → n ≤ get_or ps i 0 → false ≡ all_below ps n
+  below_stop h le =
       let e : all_below (drop i ps) n ≡ (ltb (get_or ps i 0) n && all_below (drop (i + 1) ps) n) = at_drop_more (λ l. all_below l n) ps i 0 h in
       sym (e ∙ rw (le-ltb (get_or ps i 0) n le)) ∙ sofar
 

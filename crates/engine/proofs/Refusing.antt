@@ -18,27 +18,27 @@ cores_length cores n h = length-map (take n cores) core_of ∙ length-take-le n 
 
 module _ (e : Engine) (i : ℕ) where
   -- there is no such core
-  pub step-none : length e.cores ≤ i → step e i ≡ stays e (Err NoSuchCore)
-  step-none h = rw (le-ltb i (length e.cores) h)
+  pub step_none : length e.cores ≤ i → step e i ≡ stays e (Err NoSuchCore)
+  step_none h = rw (le-ltb i (length e.cores) h)
 
   -- the record has too few free entries
-  pub step-full : i < length e.cores → 1024 < length e.entries + wanted e.token i → step e i ≡ stays e (Err RecordFull)
-  step-full h full = rw (lt-ltb i (length e.cores) h, lt-leb (length e.entries + wanted e.token i) 1024 full)
+  pub step_full : i < length e.cores → 1024 < length e.entries + wanted e.token i → step e i ≡ stays e (Err RecordFull)
+  step_full h full = rw (lt-ltb i (length e.cores) h, lt-leb (length e.entries + wanted e.token i) 1024 full)
 
   -- the step is taken
-  pub step-taken : i < length e.cores → length e.entries + wanted e.token i ≤ 1024 → step e i ≡ stepped e i
-  step-taken h free = rw (lt-ltb i (length e.cores) h, le-leb (length e.entries + wanted e.token i) 1024 free)
+  pub step_taken : i < length e.cores → length e.entries + wanted e.token i ≤ 1024 → step e i ≡ stepped e i
+  step_taken h free = rw (lt-ltb i (length e.cores) h, le-leb (length e.entries + wanted e.token i) 1024 free)
 
   -- looking at a core, and at none
-  pub look-some : i < length e.cores → Some (look_at (core_at e i)) ≡ look e i
-  look-some h = rw (lt-ltb i (length e.cores) h)
+  pub look_some : i < length e.cores → Some (look_at (core_at e i)) ≡ look e i
+  look_some h = rw (lt-ltb i (length e.cores) h)
 
   pub look_none : length e.cores ≤ i → None ≡ look e i
   look_none h = rw (le-ltb i (length e.cores) h)
 
   -- the tags of a core, and of none
-  pub tags-some : (before after : List ℕ) (answer : Result ℕ TagsRefusal) → i < length e.cores → LineTags (core_at e i).lines before after answer → Tags e i before after answer
-  tags-some before after answer h t = rw (lt-ltb i (length e.cores) h) t
+  pub tags_some : (before after : List ℕ) (answer : Result ℕ TagsRefusal) → i < length e.cores → LineTags (core_at e i).lines before after answer → Tags e i before after answer
+  tags_some before after answer h t = rw (lt-ltb i (length e.cores) h) t
 
-  pub tags-none : (before : List ℕ) → length e.cores ≤ i → Tags e i before before (Err NoTags)
-  tags-none before h = rw (le-ltb i (length e.cores) h) (refl, refl)
+  pub tags_none : (before : List ℕ) → length e.cores ≤ i → Tags e i before before (Err NoTags)
+  tags_none before h = rw (le-ltb i (length e.cores) h) (refl, refl)

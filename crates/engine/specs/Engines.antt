@@ -27,7 +27,7 @@ abbrev pub outlet_of : {O : Type 0} → OutletGhosts O → O → ModelOutlet
 outlet_of g o = record { waiting = g.waiting o; room = g.room o }
 
 -- the engine over a memory and an outlet, by what these mean
-abbrev pub engine_of : {M O : Type 0} → MemoryGhosts M → OutletGhosts O → Engine M O → ModelEngine
+abbrev pub engine_of : {M O : Type 0} (m : MemoryGhosts M) (o : OutletGhosts O) → Engine M O m o → ModelEngine
 engine_of m o e = record {
   program = instructions_of e.program;
   capacity = e.capacity;

@@ -69,31 +69,31 @@ module _ (f : Fields) (small : f.opcode < 32) where
   bounds : (register_number f.d < 8) × (register_number f.a < 8) × (register_number f.b < 8) × (f.n.value < 262144)
   bounds = (register_below f.d, register_below f.a, register_below f.b, f.n.fits)
 
-  opcode-again : joined f / 134217728 ≡ f.opcode
-  opcode-again = omega (arith, bounds)
+  opcode_again : joined f / 134217728 ≡ f.opcode
+  opcode_again = omega (arith, bounds)
 
-  d-again : joined f / 16777216 % 8 ≡ register_number f.d
-  d-again = omega (arith, bounds)
+  d_again : joined f / 16777216 % 8 ≡ register_number f.d
+  d_again = omega (arith, bounds)
 
   a_again : joined f / 2097152 % 8 ≡ register_number f.a
   a_again = omega (arith, bounds)
 
-  b-again : joined f / 262144 % 8 ≡ register_number f.b
-  b-again = omega (arith, bounds)
+  b_again : joined f / 262144 % 8 ≡ register_number f.b
+  b_again = omega (arith, bounds)
 
-  n-again : joined f % 262144 ≡ f.n.value
-  n-again = omega (arith, bounds)
+  n_again : joined f % 262144 ≡ f.n.value
+  n_again = omega (arith, bounds)
 
-  joined-fits : joined f < 4294967296
-  joined-fits = omega (arith, bounds)
+  joined_fits : joined f < 4294967296
+  joined_fits = omega (arith, bounds)
 
-  split-joined : split (joined f) ≡ f
-  split-joined = λ k. record {
-    opcode = opcode-again k;
-    d = (ap register_at d-again ∙ register_again f.d) k;
+  split_joined : split (joined f) ≡ f
+  split_joined = λ k. record {
+    opcode = opcode_again k;
+    d = (ap register_at d_again ∙ register_again f.d) k;
     a = (ap register_at a_again ∙ register_again f.a) k;
-    b = (ap register_at b-again ∙ register_again f.b) k;
-    n = same_value 262144 (immediate_of (joined f)) f.n n-again k;
+    b = (ap register_at b_again ∙ register_again f.b) k;
+    n = same_value 262144 (immediate_of (joined f)) f.n n_again k;
   }
 
 opcode_small : (i : Instruction) → (encoded i).opcode < 32
@@ -115,7 +115,7 @@ opcode_small (Out a channel) = omega arith
 
 -- an instruction's word is a word
 pub word_fits : (i : Instruction) → instruction_word i < 256 ^ 4
-word_fits i = joined-fits (encoded i) (opcode_small i)
+word_fits i = joined_fits (encoded i) (opcode_small i)
 
 -- an instruction's fields decode to the instruction
 decoded_encoded : (i : Instruction) → decoded (encoded i) ≡ Ok i
@@ -140,7 +140,7 @@ decoded_encoded (Out a channel) =
 
 -- unpacking an instruction's word gives the instruction
 pub word_again : (i : Instruction) → word_instruction (instruction_word i) ≡ Ok i
-word_again i = ap decoded (split-joined (encoded i) (opcode_small i)) ∙ decoded_encoded i
+word_again i = ap decoded (split_joined (encoded i) (opcode_small i)) ∙ decoded_encoded i
 
 -- the joined fields of a word are the word
 pub joined_split : (w : ℕ) → joined (split w) ≡ w
@@ -185,55 +185,55 @@ module _ (f : Fields) where
   o : ℕ
   o = f.opcode
 
-  noD : Bool
-  noD = eqb (register_number f.d) 0
+  no_d_lem : Bool
+  no_d_lem = eqb (register_number f.d) 0
 
-  noA : Bool
-  noA = eqb (register_number f.a) 0
+  no_a_lem : Bool
+  no_a_lem = eqb (register_number f.a) 0
 
-  noB : Bool
-  noB = eqb (register_number f.b) 0
+  no_b_lem : Bool
+  no_b_lem = eqb (register_number f.b) 0
 
-  noN : Bool
-  noN = eqb f.n.value 0
+  no_n_lem : Bool
+  no_n_lem = eqb f.n.value 0
 
   only : (t : Bool) (i e : Instruction) → (t ≡ true → encoded i ≡ f) → only_if t i ≡ Ok e → encoded e ≡ f
   only t i e then h = let p = only_back t i e h in subst (λ (j : Instruction). encoded j ≡ f) p.1 (then p.0)
 
   -- an instruction that names no field
-  bare : (k : ℕ) (i e : Instruction) → encoded i ≡ placed k R0 R0 R0 (immediate_of 0) → o ≡ k → only_if (noD && noA && noB && noN) i ≡ Ok e → encoded e ≡ f
-  unfolding o noD noA noB noN
-  bare k i e is p = only (noD && noA && noB && noN) i e (λ t.
-      let u = and_parts (noD && noA && noB) noN t in
-      let v = and_parts (noD && noA) noB u.0 in
-      let w = and_parts noD noA v.0 in
+  bare : (k : ℕ) (i e : Instruction) → encoded i ≡ placed k R0 R0 R0 (immediate_of 0) → o ≡ k → only_if (no_d_lem && no_a_lem && no_b_lem && no_n_lem) i ≡ Ok e → encoded e ≡ f
+  unfolding o no_d_lem no_a_lem no_b_lem no_n_lem
+  bare k i e is p = only (no_d_lem && no_a_lem && no_b_lem && no_n_lem) i e (λ t.
+      let u = and_parts (no_d_lem && no_a_lem && no_b_lem) no_n_lem t in
+      let v = and_parts (no_d_lem && no_a_lem) no_b_lem u.0 in
+      let w = and_parts no_d_lem no_a_lem v.0 in
       is ∙ same_fields f k R0 R0 R0 (immediate_of 0) p (zero_register f.d w.0) (zero_register f.a w.1) (zero_register f.b v.1) (zero_immediate f.n u.1))
 
   -- an instruction of three registers
-  triple : (k : ℕ) (i e : Instruction) → encoded i ≡ placed k f.d f.a f.b (immediate_of 0) → o ≡ k → only_if noN i ≡ Ok e → encoded e ≡ f
-  unfolding o noN
-  triple k i e is p = only noN i e (λ t. is ∙ same_fields f k f.d f.a f.b (immediate_of 0) p refl refl refl (zero_immediate f.n t))
+  triple : (k : ℕ) (i e : Instruction) → encoded i ≡ placed k f.d f.a f.b (immediate_of 0) → o ≡ k → only_if no_n_lem i ≡ Ok e → encoded e ≡ f
+  unfolding o no_n_lem
+  triple k i e is p = only no_n_lem i e (λ t. is ∙ same_fields f k f.d f.a f.b (immediate_of 0) p refl refl refl (zero_immediate f.n t))
 
-  decoded-back : (e : Instruction) → decoded f ≡ Ok e → encoded e ≡ f
-  unfolding o noD noA noB noN
-  decoded-back e =
+  decoded_back : (e : Instruction) → decoded f ≡ Ok e → encoded e ≡ f
+  unfolding o no_d_lem no_a_lem no_b_lem no_n_lem
+  decoded_back e =
       branch o 0 _ _ e (bare 0 Halt e refl)
-      (branch o 1 _ _ e (λ p. only (noA && noB) (Set f.d f.n) e (λ t. let u = and_parts noA noB t in same_fields f 1 _ R0 R0 _ p refl (zero_register f.a u.0) (zero_register f.b u.1) refl))
+      (branch o 1 _ _ e (λ p. only (no_a_lem && no_b_lem) (Set f.d f.n) e (λ t. let u = and_parts no_a_lem no_b_lem t in same_fields f 1 _ R0 R0 _ p refl (zero_register f.a u.0) (zero_register f.b u.1) refl))
       (branch o 2 _ _ e (triple 2 (Add f.d f.a f.b) e refl)
       (branch o 3 _ _ e (triple 3 (Sub f.d f.a f.b) e refl)
       (branch o 4 _ _ e (triple 4 (Mean f.d f.a f.b) e refl)
-      (branch o 5 _ _ e (λ p. only noB (Load f.d f.a f.n) e (λ t. same_fields f 5 _ _ R0 _ p refl refl (zero_register f.b t) refl))
-      (branch o 6 _ _ e (λ p. only noD (Store f.a f.b f.n) e (λ t. same_fields f 6 R0 _ _ _ p (zero_register f.d t) refl refl refl))
-      (branch o 7 _ _ e (λ p. only (noD && noA && noB) (Jump f.n) e (λ t. let u = and_parts (noD && noA) noB t in let v = and_parts noD noA u.0 in same_fields f 7 R0 R0 R0 _ p (zero_register f.d v.0) (zero_register f.a v.1) (zero_register f.b u.1) refl))
-      (branch o 8 _ _ e (λ p. only (noD && noB) (Jz f.a f.n) e (λ t. let u = and_parts noD noB t in same_fields f 8 R0 _ R0 _ p (zero_register f.d u.0) refl (zero_register f.b u.1) refl))
-      (branch o 9 _ _ e (λ p. only noD (Jlt f.a f.b f.n) e (λ t. same_fields f 9 R0 _ _ _ p (zero_register f.d t) refl refl refl))
+      (branch o 5 _ _ e (λ p. only no_b_lem (Load f.d f.a f.n) e (λ t. same_fields f 5 _ _ R0 _ p refl refl (zero_register f.b t) refl))
+      (branch o 6 _ _ e (λ p. only no_d_lem (Store f.a f.b f.n) e (λ t. same_fields f 6 R0 _ _ _ p (zero_register f.d t) refl refl refl))
+      (branch o 7 _ _ e (λ p. only (no_d_lem && no_a_lem && no_b_lem) (Jump f.n) e (λ t. let u = and_parts (no_d_lem && no_a_lem) no_b_lem t in let v = and_parts no_d_lem no_a_lem u.0 in same_fields f 7 R0 R0 R0 _ p (zero_register f.d v.0) (zero_register f.a v.1) (zero_register f.b u.1) refl))
+      (branch o 8 _ _ e (λ p. only (no_d_lem && no_b_lem) (Jz f.a f.n) e (λ t. let u = and_parts no_d_lem no_b_lem t in same_fields f 8 R0 _ R0 _ p (zero_register f.d u.0) refl (zero_register f.b u.1) refl))
+      (branch o 9 _ _ e (λ p. only no_d_lem (Jlt f.a f.b f.n) e (λ t. same_fields f 9 R0 _ _ _ p (zero_register f.d t) refl refl refl))
       (branch o 10 _ _ e (bare 10 Begin e refl)
       (branch o 11 _ _ e (bare 11 End e refl)
       (branch o 12 _ _ e (bare 12 Retry e refl)
       (branch o 13 _ _ e (bare 13 Early e refl)
-      (branch o 14 _ _ e (λ p. only (noD && noB && ltb f.n.value 256) (Out f.a (channel_of f.n.value)) e (λ t.
-      let u = and_parts (noD && noB) (ltb f.n.value 256) t in
-      let v = and_parts noD noB u.0 in
+      (branch o 14 _ _ e (λ p. only (no_d_lem && no_b_lem && ltb f.n.value 256) (Out f.a (channel_of f.n.value)) e (λ t.
+      let u = and_parts (no_d_lem && no_b_lem) (ltb f.n.value 256) t in
+      let v = and_parts no_d_lem no_b_lem u.0 in
       let small : f.n.value < 256 = ltb-true f.n.value 256 u.1 in
       let value : f.n.value % 256 % 262144 ≡ f.n.value = omega arith in
       same_fields f 14 R0 _ R0 _ p (zero_register f.d v.0) refl (zero_register f.b v.1) (same_value 262144 (immediate_of (f.n.value % 256)) f.n value)))
@@ -241,4 +241,4 @@ module _ (f : Fields) where
 
 -- packing what a word unpacks to gives the word
 pub word_back : (w : ℕ) (i : Instruction) → w < 256 ^ 4 → word_instruction w ≡ Ok i → instruction_word i ≡ w
-word_back w i h is = ap joined (decoded-back (split w) i is) ∙ joined_split w
+word_back w i h is = ap joined (decoded_back (split w) i is) ∙ joined_split w

@@ -31,32 +31,32 @@ module _ (e : RecordEntry) where
   bounds : (e.core.value < 8) × (mark_number e.mark ≤ 2) × (e.count.value < 4097)
   bounds = (e.core.fits, mark_small e.mark, e.count.fits)
 
-  core-again : record_word e / 536870912 ≡ e.core.value
-  core-again = omega (arith, bounds)
+  core_again : record_word e / 536870912 ≡ e.core.value
+  core_again = omega (arith, bounds)
 
-  field-again : record_word e / 134217728 % 4 ≡ mark_number e.mark
-  field-again = omega (arith, bounds)
+  field_again : record_word e / 134217728 % 4 ≡ mark_number e.mark
+  field_again = omega (arith, bounds)
 
-  spare-again : record_word e / 65536 % 2048 ≡ 0
-  spare-again = omega (arith, bounds)
+  spare_again : record_word e / 65536 % 2048 ≡ 0
+  spare_again = omega (arith, bounds)
 
-  count-again : record_word e % 65536 ≡ e.count.value
-  count-again = omega (arith, bounds)
+  count_again : record_word e % 65536 ≡ e.count.value
+  count_again = omega (arith, bounds)
 
   -- an entry's word is a word
   pub word_fits : record_word e < 256 ^ 4
   word_fits = omega (arith, bounds)
 
-  in-range : in_range (record_word e) ≡ true
-  in-range =
-      and_from _ _ (and_from _ _ (le-leb _ 2 (omega (arith, field-again, bounds))) (eq-eqb _ 0 spare-again)) (le-leb _ 4096 (omega (arith, count-again, bounds)))
+  in_range_lem : in_range (record_word e) ≡ true
+  in_range_lem =
+      and_from _ _ (and_from _ _ (le-leb _ 2 (omega (arith, field_again, bounds))) (eq-eqb _ 0 spare_again)) (le-leb _ 4096 (omega (arith, count_again, bounds)))
 
   -- unpacking an entry's word gives the entry
   pub word_again : word_record (record_word e) ≡ Ok e
-  word_again = rw in-range (λ k. Ok (record {
-    core = same_value 8 (core_of (record_word e / 536870912)) e.core (omega (arith, core-again, bounds)) k;
-    mark = (ap mark_at field-again ∙ mark_again e.mark) k;
-    count = same_value 4097 (count_of (record_word e % 65536)) e.count (omega (arith, count-again, bounds)) k;
+  word_again = rw in_range_lem (λ k. Ok (record {
+    core = same_value 8 (core_of (record_word e / 536870912)) e.core (omega (arith, core_again, bounds)) k;
+    mark = (ap mark_at field_again ∙ mark_again e.mark) k;
+    count = same_value 4097 (count_of (record_word e % 65536)) e.count (omega (arith, count_again, bounds)) k;
   }))
 
 -- the parts of a word in range make up the word

@@ -26,7 +26,7 @@ use Rattle.laws.proofs.Invariant.{Good, Booked, Shared, SentIs, HeldIs, Inv}
 use Rattle.laws.proofs.Keeps.{InvAfter, other_still, free_core}
 use Rattle.laws.proofs.Plain.{stopped, aborted, bypass}
 use Rattle.laws.proofs.Transaction.{transaction}
-use Rattle.laws.proofs.Holder.{commit, early-flush, early-commit}
+use Rattle.laws.proofs.Holder.{commit, early_flush, early-commit}
 
 -- a step, by the core's state
 state_kept :
@@ -36,7 +36,7 @@ state_kept Bypass e j h i b st = bypass e j h i b (asks e.program (core_at e i).
 state_kept Transaction e j h i b st = transaction e j h i b st (inner_at e.program (length e.memory) (core_at e i).place (core_at e i).depth (core_at e i).count) refl
 state_kept Commit e j h i b st = commit e j h i b (asks e.program (core_at e i).place) st
 state_kept Abort e j h i b st = aborted e j h i b (asks e.program (core_at e i).place) st
-state_kept EarlyFlush e j h i b st = early-flush e j h i b (asks e.program (core_at e i).place) st
+state_kept EarlyFlush e j h i b st = early_flush e j h i b (asks e.program (core_at e i).place) st
 state_kept EarlyCommit e j h i b st =
     early-commit e j h i b (asks e.program (core_at e i).place) st (inner_at e.program (length e.memory) (core_at e i).place (core_at e i).depth (core_at e i).count) refl
 state_kept Stopped e j h i b st = stopped e j h i b (asks e.program (core_at e i).place) st

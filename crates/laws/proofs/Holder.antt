@@ -62,8 +62,8 @@ module _ (e : Engine) (j : Journal) (h : Inv e j) (i : ℕ) (b : i < length e.co
   mine : e.token ≡ CoreHas i → Shared (CoreHas i) e j h.now
   mine own = subst (λ t. Shared t e j h.now) own h.shared
 
-  freed-own : e.token ≡ CoreHas i → freed e.token i ≡ Free
-  freed-own own = rw (own, eq-eqb i i refl) refl
+  freed_own : e.token ≡ CoreHas i → freed e.token i ≡ Free
+  freed_own own = rw (own, eq-eqb i i refl) refl
 
   -- the core finishes and frees the token
   finish-own :
@@ -73,7 +73,7 @@ module _ (e : Engine) (j : Journal) (h : Inv e j) (i : ℕ) (b : i < length e.co
       Good c'.state e.program (memory_after x e.memory) (freed e.token i) i c' → Booked c'.state (own_book (touch ask) answer (books j.moves i)) c' →
       InvAfter e j i ask (finishes (view_of e i) c' x mark n answer)
   finish-own c' x mark n answer own u m s g k =
-      finish_free e j h i b ask c' x mark n answer (own_quiet x e.token (freed e.token i) i own) (freed-own own) u
+      finish_free e j h i b ask c' x mark n answer (own_quiet x e.token (freed e.token i) i own) (freed_own own) u
       (ap length m ∙ length_after x e.memory) m s g k
 
   -- the next instruction of the block, alone
@@ -116,8 +116,8 @@ module _ (e : Engine) (j : Journal) (h : Inv e j) (i : ℕ) (b : i < length e.co
       (λ q. ends-own (wrote c.lines) own (rw st refl) (rw st refl) d (all_written_lem c.lines e.memory q) (wrote_sends_nothing c.lines e.outlet))
 
   -- EARLY_FLUSH
-  pub early-flush : c.state ≡ EarlyFlush → InvAfter e j i ask (in_early_flush (view_of e i) c)
-  early-flush st =
+  pub early_flush : c.state ≡ EarlyFlush → InvAfter e j i ask (in_early_flush (view_of e i) c)
+  early_flush st =
       let own : e.token ≡ CoreHas i = subst (λ s. Good s e.program e.memory e.token i c) st (h.good i) in
       let book : ((books j.moves i).is_open ≡ true) × ((books j.moves i).hit ≡ false) = subst (λ s. Booked s (books j.moves i) c) st (h.booked i) in
       cond_both (any_dirty (left c.lines))

@@ -234,11 +234,11 @@ aside_shared :
     now'.memory ≡ now.memory → now'.sent ≡ now.sent →
     Shared t e j now → HeldIs t e j →
     Shared t (change e i o) (note e (Moved i ask o.answer o.effect) j) now' × HeldIs t (change e i o) (note e (Moved i ask o.answer o.effect) j)
-aside_shared Free e j i ask o now now' x not-i p q w v = rw (x, p, q) (w, tt)
-aside_shared (CoreHas k) e j i ask o now now' x not-i p q w v =
-    let ne : k ≢ i = λ same. not-i (rw same at w.1.state) in
+aside_shared Free e j i ask o now now' x not_i p q w v = rw (x, p, q) (w, tt)
+aside_shared (CoreHas k) e j i ask o now now' x not_i p q w v =
+    let ne : k ≢ i = λ same. not_i (rw same at w.1.state) in
     rw (core_other e i k o ne, x) ((w.0, holding_same e.program now now' e.memory w.0 (core_at e k) p q w.1, w.2), tt)
-aside_shared Host e j i ask o now now' x not-i p q w v = rw (x, p, q) (w, v)
+aside_shared Host e j i ask o now now' x not_i p q w v = rw (x, p, q) (w, v)
 
 -- a step of a core that has not the token, and writes and sends nothing
 pub kept_aside :
@@ -246,8 +246,8 @@ pub kept_aside :
     o.effect ≡ Nothing → o.token ≡ e.token → (Holder (core_at e i).state e.program e.memory (core_at e i) → ⊥) →
     p.machine.memory ≡ h.now.memory → p.machine.sent ≡ h.now.sent →
     InvAfter e j i ask o
-kept_aside e j h i ask o b p x t not-i m s =
+kept_aside e j h i ask o b p x t not_i m s =
     let w = subst (λ y. Shared y e j h.now) (sym t) h.shared in
     let v = subst (λ y. HeldIs y e j) (sym t) h.held in
-    let q = aside_shared o.token e j i ask o h.now p.machine x not-i m s w v in
+    let q = aside_shared o.token e j i ask o h.now p.machine x not_i m s w v in
     kept e j h i ask o b p q.0 q.1

@@ -36,7 +36,7 @@ pub only_core :
     NoHolder e i → settle c' ≡ settle (core_at e i) →
     Good c'.state e.program e.memory e.token i c' → Booked c'.state (own_book (touch ask) answer (books j.moves i)) c' →
     InvAfter e j i ask (becomes (view_of e i) c' answer)
-only_core e j h i b ask c' answer not-i s g k =
+only_core e j h i b ask c' answer not_i s g k =
     kept_aside e j h i ask (becomes (view_of e i) c' answer) b
     (record {
       quiet = λ k ne q. q;
@@ -47,15 +47,15 @@ only_core e j h i b ask c' answer not-i s g k =
       good = g;
       booked = k;
     })
-    refl refl not-i refl refl
+    refl refl not_i refl refl
 
 -- the token stays where it is when a core finishes that has it not
 freed_aside : (t : Token) (e : Engine) (j : Journal) (now : Machine) (i : ℕ) → NoHolder e i → Shared t e j now → freed t i ≡ t
-freed_aside Free e j now i not-i w = refl
-freed_aside (CoreHas k) e j now i not-i w =
-    let ne : k ≢ i = λ same. not-i (rw same at w.1.state) in
+freed_aside Free e j now i not_i w = refl
+freed_aside (CoreHas k) e j now i not_i w =
+    let ne : k ≢ i = λ same. not_i (rw same at w.1.state) in
     rw (ne_eqb k i ne) refl
-freed_aside Host e j now i not-i w = refl
+freed_aside Host e j now i not_i w = refl
 
 -- what a unit's entry brings the machine to
 pub record UnitIs (e : Engine) (j : Journal) (h : Inv e j) (i : ℕ) (mark : Mark) (n : ℕ) (c' : Core) : Type 0 where
@@ -72,8 +72,8 @@ pub finish_aside :
     NoHolder e i → (u : UnitIs e j h i mark n c') → u.machine.memory ≡ h.now.memory → u.machine.sent ≡ h.now.sent →
     Good c'.state e.program e.memory (freed e.token i) i c' → Booked c'.state (own_book (touch ask) answer (books j.moves i)) c' →
     InvAfter e j i ask (finishes (view_of e i) c' Nothing mark n answer)
-finish_aside e j h i b ask c' mark n answer not-i u m s g k =
-    let f = freed_aside e.token e j h.now i not-i h.shared in
+finish_aside e j h i b ask c' mark n answer not_i u m s g k =
+    let f = freed_aside e.token e j h.now i not_i h.shared in
     kept_aside e j h i ask (finishes (view_of e i) c' Nothing mark n answer) b
     (record {
       quiet = λ k ne q. f ∙ q;
@@ -84,7 +84,7 @@ finish_aside e j h i b ask c' mark n answer not-i u m s g k =
       good = g;
       booked = k;
     })
-    refl f not-i m s
+    refl f not_i m s
 
 -- a core finishes, and the token is free then
 pub finish_free :

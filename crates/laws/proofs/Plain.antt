@@ -38,7 +38,7 @@ when_free e j h f = subst (λ t. Shared t e j h.now) f h.shared
 
 -- a core that stays as it is
 pub waits : (e : Engine) (j : Journal) (h : Inv e j) (i : ℕ) → i < length e.cores → (ask : Ask) → NoHolder e i → InvAfter e j i ask (becomes (view_of e i) (core_at e i) Waiting)
-waits e j h i b ask not-i = only_core e j h i b ask (core_at e i) Waiting not-i refl (h.good i) (h.booked i)
+waits e j h i b ask not_i = only_core e j h i b ask (core_at e i) Waiting not_i refl (h.good i) (h.booked i)
 
 -- STOPPED
 pub stopped : (e : Engine) (j : Journal) (h : Inv e j) (i : ℕ) → i < length e.cores → (ask : Ask) → (core_at e i).state ≡ Stopped → InvAfter e j i ask (step_by_state Stopped (view_of e i) (core_at e i))
@@ -67,8 +67,8 @@ abbrev pub machine_with : Machine → ℕ → Core → List ℕ → List SentEnt
 machine_with now i c' m s = record { memory = m; sent = s; cores = set now.cores i (settle c') }
 
 module _ (e : Engine) (j : Journal) (h : Inv e j) (i : ℕ) (b : i < length e.cores) (ask : Ask) (st : (core_at e i).state ≡ Bypass) where
-  not-i : NoHolder e i
-  not-i w = subst (λ s. Holder s e.program e.memory (core_at e i)) st w
+  not_i : NoHolder e i
+  not_i w = subst (λ s. Holder s e.program e.memory (core_at e i)) st w
 
   -- a plain instruction that neither reads, writes nor sends
   plain-aside :
@@ -76,7 +76,7 @@ module _ (e : Engine) (j : Journal) (h : Inv e j) (i : ℕ) (b : i < length e.co
       Booked s (own_book (touch ask) Done (books j.moves i)) (resting s p (core_at e i).saved) →
       (u : UnitIs e j h i Completed 1 (resting s p (core_at e i).saved)) → u.machine.memory ≡ h.now.memory → u.machine.sent ≡ h.now.sent →
       InvAfter e j i ask (plain (view_of e i) (core_at e i) s p Nothing)
-  plain-aside s p g k u m n = finish_aside e j h i b ask (resting s p (core_at e i).saved) Completed 1 Done not-i u m n g k
+  plain-aside s p g k u m n = finish_aside e j h i b ask (resting s p (core_at e i).saved) Completed 1 Done not_i u m n g k
 
   -- a plain instruction with the token free
   plain-free :
@@ -91,7 +91,7 @@ module _ (e : Engine) (j : Journal) (h : Inv e j) (i : ℕ) (b : i < length e.co
   pub bypass : (o : Outer) → outer_at e.program (length e.memory) (core_at e i).place ≡ o → InvAfter e j i ask (in_bypass (view_of e i) (core_at e i) o)
   bypass (OuterFaults f) d =
       let c' = resting Stopped (core_at e i).place (core_at e i).saved in
-      finish_aside e j h i b ask c' Discarded 0 (Faulted f (core_at e i).place.pc) not-i
+      finish_aside e j h i b ask c' Discarded 0 (Faulted f (core_at e i).place.pc) not_i
       (record { alive = rw st refl; machine = machine_with h.now i c' h.now.memory h.now.sent; is = rw (st, h.size, d) refl; cores = refl })
       refl refl tt refl
   bypass (OuterMoves p) d =
@@ -108,7 +108,7 @@ module _ (e : Engine) (j : Journal) (h : Inv e j) (i : ℕ) (b : i < length e.co
       plain-free p Nothing f
       (record { alive = rw st refl; machine = machine_with h.now i c' e.memory h.now.sent; is = rw (st, w.0, d) refl; cores = refl })
       refl refl w.1)
-      (waits e j h i b ask not-i)
+      (waits e j h i b ask not_i)
   bypass (OuterStores a v) d =
       let p = past (core_at e i).place in
       let c' = resting Bypass p (core_at e i).saved in
@@ -118,7 +118,7 @@ module _ (e : Engine) (j : Journal) (h : Inv e j) (i : ℕ) (b : i < length e.co
       plain-free p (Wrote a v) f
       (record { alive = rw st refl; machine = machine_with h.now i c' (set e.memory a v) h.now.sent; is = rw (st, w.0, d) refl; cores = refl })
       refl (length-set e.memory a v) w.1)
-      (waits e j h i b ask not-i)
+      (waits e j h i b ask not_i)
   bypass (OuterSends y) d =
       let p = past (core_at e i).place in
       let c' = resting Bypass p (core_at e i).saved in
@@ -129,12 +129,12 @@ module _ (e : Engine) (j : Journal) (h : Inv e j) (i : ℕ) (b : i < length e.co
       (λ _. plain-free p (Sent y) f
       (record { alive = rw st refl; machine = machine_with h.now i c' e.memory (h.now.sent ++ y ∷ []); is = rw (st, w.0, d) refl; cores = refl })
       refl refl (one_more_sent j.taken e.outlet.waiting j.waiting h.now.sent y w.1))
-      (λ _. only_core e j h i b ask (core_at e i) Full not-i refl (h.good i) (h.booked i)))
-      (waits e j h i b ask not-i)
+      (λ _. only_core e j h i b ask (core_at e i) Full not_i refl (h.good i) (h.booked i)))
+      (waits e j h i b ask not_i)
   bypass Opens d =
       only_core e j h i b ask
       (record { state = Transaction; place = past (core_at e i).place; saved = (core_at e i).place; depth = 1; count = 1; lines = [] })
-      Running not-i (rw st refl)
+      Running not_i (rw st refl)
       (record { fit = tt; alone = λ m' s n agree. rw (n, d) refl })
       (rw (booked_bypass e j h i st) (record { is_open = refl; hit = refl; taken = λ a. refl; touched = λ a. refl }))
   bypass Stops d =

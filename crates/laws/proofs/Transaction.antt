@@ -36,8 +36,8 @@ module _ (e : Engine) (j : Journal) (h : Inv e j) (i : ℕ) (b : i < length e.co
   abbrev ask : Ask
   ask = asks e.program c.place
 
-  not-i : NoHolder e i
-  not-i w = subst (λ s. Holder s e.program e.memory c) st w
+  not_i : NoHolder e i
+  not_i w = subst (λ s. Holder s e.program e.memory c) st w
 
   follows : Follows e.program e.memory c
   follows = subst (λ s. Good s e.program e.memory e.token i c) st (h.good i)
@@ -45,12 +45,12 @@ module _ (e : Engine) (j : Journal) (h : Inv e j) (i : ℕ) (b : i < length e.co
   tracks : Tracks (books j.moves i) c
   tracks = subst (λ s. Booked s (books j.moves i) c) st (h.booked i)
 
-  saved-place : settled_place c.state c ≡ c.saved
-  saved-place = rw st refl
+  saved_place : settled_place c.state c ≡ c.saved
+  saved_place = rw st refl
 
   -- with the token free: as many instructions alone on what the machine has
-  alone-now : e.token ≡ Free → run e.program (scene c.saved h.now.memory h.now.sent) c.count ≡ Inside c.depth (scene c.place (overlay c.lines e.memory) h.now.sent)
-  alone-now f = rw (when_free e j h f).0 (follows.alone e.memory h.now.sent refl (λ a t. refl))
+  alone_now : e.token ≡ Free → run e.program (scene c.saved h.now.memory h.now.sent) c.count ≡ Inside c.depth (scene c.place (overlay c.lines e.memory) h.now.sent)
+  alone_now f = rw (when_free e j h f).0 (follows.alone e.memory h.now.sent refl (λ a t. refl))
 
   -- one more instruction alone, on a memory that agrees
   alone-more :
@@ -64,22 +64,22 @@ module _ (e : Engine) (j : Journal) (h : Inv e j) (i : ℕ) (b : i < length e.co
       (p : Place) (depth : ℕ) (ls : List Line) → Follows e.program e.memory (performed c p depth ls) → Tracks (touches (touch ask) (books j.moves i)) (performed c p depth ls) →
       InvAfter e j i ask (becomes (view_of e i) (performed c p depth ls) Running)
   runs_on p depth ls f t =
-      only_core e j h i b ask (performed c p depth ls) Running not-i (rw st refl)
+      only_core e j h i b ask (performed c p depth ls) Running not_i (rw st refl)
       (good_in Transaction e.program e.memory e.token i (performed c p depth ls) st f)
       (subst (λ k. Booked c.state k (performed c p depth ls)) (sym (cond-true (books j.moves i).is_open (touches (touch ask) (books j.moves i)) opened tracks.is_open))
       (booked_in Transaction (touches (touch ask) (books j.moves i)) (performed c p depth ls) st t))
 
   -- the core takes the token to commit early
-  takes-early : InvAfter e j i ask (early (view_of e i) c)
-  takes-early =
+  takes_early : InvAfter e j i ask (early (view_of e i) c)
+  takes_early =
       if_free_lem e.token e j i ask _ (becomes (view_of e i) c Waiting) refl
       (λ f.
       cond_both (any_dirty c.lines) (turned_to c EarlyFlush c.lines) (turned_to c EarlyCommit []) (λ c'. InvAfter e j i ask (takes_token (view_of e i) c' Early))
-      (λ q. take_token e j h i b ask (turned_to c EarlyFlush c.lines) Early f (rw st refl) (record { state = tt; alone = alone-now f }) (when_free e j h f).1 refl (tracks.is_open, tracks.hit))
+      (λ q. take_token e j h i b ask (turned_to c EarlyFlush c.lines) Early f (rw st refl) (record { state = tt; alone = alone_now f }) (when_free e j h f).1 refl (tracks.is_open, tracks.hit))
       (λ q. take_token e j h i b ask (turned_to c EarlyCommit []) Early f (rw st refl)
-      (record { state = refl; alone = rw (← (overlay_clean c.lines e.memory q)) (alone-now f) })
+      (record { state = refl; alone = rw (← (overlay_clean c.lines e.memory q)) (alone_now f) })
       (when_free e j h f).1 refl (tracks.is_open, tracks.hit)))
-      (waits e j h i b ask not-i)
+      (waits e j h i b ask not_i)
 
   -- what the instruction comes to, decoded
   abbrev Comes : Inner → Type 0
@@ -95,11 +95,11 @@ module _ (e : Engine) (j : Journal) (h : Inv e j) (i : ℕ) (b : i < length e.co
       (record {
         alive = rw st refl;
         machine = machine_with h.now i c' h.now.memory h.now.sent;
-        is = rw (st, alone-now q, length_overlay c.lines e.memory, d) refl;
+        is = rw (st, alone_now q, length_overlay c.lines e.memory, d) refl;
         cores = refl;
       })
       h.size (when_free e j h q).0 (when_free e j h q).1 tt refl)
-      (waits e j h i b ask not-i)
+      (waits e j h i b ask not_i)
 
   -- the block ends, or goes to write its lines
   ending : Comes Closes → InvAfter e j i ask (in_transaction (view_of e i) c Closes)
@@ -108,20 +108,20 @@ module _ (e : Engine) (j : Journal) (h : Inv e j) (i : ℕ) (b : i < length e.co
       if_free_lem e.token e j i ask (closes (view_of e i) c) (becomes (view_of e i) c Waiting) refl
       (λ q.
       cond_both (any_dirty c.lines) (takes_token (view_of e i) (turned_to c Commit c.lines) Committing) (ends (view_of e i) c Nothing) (InvAfter e j i ask)
-      (λ _. take_token e j h i b ask (turned_to c Commit c.lines) Committing q (rw st refl) (record { state = d; alone = alone-now q }) (when_free e j h q).1 refl (tracks.is_open, tracks.hit))
+      (λ _. take_token e j h i b ask (turned_to c Commit c.lines) Committing q (rw st refl) (record { state = d; alone = alone_now q }) (when_free e j h q).1 refl (tracks.is_open, tracks.hit))
       (λ clean. finish_free e j h i b ask c' Nothing Completed (suc c.count) Done
       (free_quiet Nothing e.token (freed e.token i) i q) (rw q refl)
       (record {
         alive = rw st refl;
         machine = machine_with h.now i c' (overlay c.lines h.now.memory) h.now.sent;
-        is = ap (λ p. unit e.program h.now i Completed (suc c.count) (run e.program (scene p h.now.memory h.now.sent) (suc c.count))) saved-place
+        is = ap (λ p. unit e.program h.now i Completed (suc c.count) (run e.program (scene p h.now.memory h.now.sent) (suc c.count))) saved_place
             ∙ ap (λ r. unit e.program h.now i Completed (suc c.count) r)
             (alone-more Closes d h.now.memory h.now.sent h.size (λ a t. ap (λ m. get_or m a 0) (when_free e j h q).0));
         cores = refl;
       })
       (length_overlay c.lines h.now.memory ∙ h.size)
       (overlay_clean c.lines h.now.memory clean ∙ (when_free e j h q).0) (when_free e j h q).1 tt refl))
-      (waits e j h i b ask not-i)
+      (waits e j h i b ask not_i)
 
   -- only pc, registers and depth move
   moves : (p : Place) (depth : ℕ) → Comes (InnerMoves p depth) → InvAfter e j i ask (in_transaction (view_of e i) c (InnerMoves p depth))
@@ -132,9 +132,9 @@ module _ (e : Engine) (j : Journal) (h : Inv e j) (i : ℕ) (b : i < length e.co
       (record { is_open = tracks.is_open; hit = tracks.hit; taken = tracks.taken; touched = tracks.touched }))
 
   -- a load of a word that is in a line
-  loads-line : (a : ℕ) (k : ℕ → List ℕ) → Comes (InnerLoads a k) → holds c.lines a ≡ true →
+  loads_line_lem : (a : ℕ) (k : ℕ → List ℕ) → Comes (InnerLoads a k) → holds c.lines a ≡ true →
       InvAfter e j i ask (becomes (view_of e i) (performed c (onward c.place (k (value_at c.lines a))) c.depth c.lines) Running)
-  loads-line a k d held =
+  loads_line_lem a k d held =
       runs_on (onward c.place (k (value_at c.lines a))) c.depth c.lines
       (record {
         fit = follows.fit;
@@ -146,9 +146,9 @@ module _ (e : Engine) (j : Journal) (h : Inv e j) (i : ℕ) (b : i < length e.co
       (record { is_open = tracks.is_open; hit = tracks.hit; taken = tracks.taken; touched = tracks.touched }))
 
   -- a load that makes a line
-  loads-memory : (a : ℕ) (k : ℕ → List ℕ) → Comes (InnerLoads a k) → holds c.lines a ≡ false →
+  loads_memory : (a : ℕ) (k : ℕ → List ℕ) → Comes (InnerLoads a k) → holds c.lines a ≡ false →
       InvAfter e j i ask (becomes (view_of e i) (performed c (onward c.place (k (get_or e.memory a 0))) c.depth (c.lines ++ loaded_line a (get_or e.memory a 0) ∷ [])) Running)
-  loads-memory a k d absent =
+  loads_memory a k d absent =
       let w = get_or e.memory a 0 in
       let l = loaded_line a w in
       let t = decoded e.program (length e.memory) c.place c.depth c.count (InnerLoads a k) d in
@@ -171,9 +171,9 @@ module _ (e : Engine) (j : Journal) (h : Inv e j) (i : ℕ) (b : i < length e.co
       }))
 
   -- a store to a line
-  stores-line : (a w : ℕ) → Comes (InnerStores a w) → holds c.lines a ≡ true →
+  stores_line_lem : (a w : ℕ) → Comes (InnerStores a w) → holds c.lines a ≡ true →
       InvAfter e j i ask (becomes (view_of e i) (performed c (past c.place) c.depth (store_at c.lines a w)) Running)
-  stores-line a w d held =
+  stores_line_lem a w d held =
       let t = decoded e.program (length e.memory) c.place c.depth c.count (InnerStores a w) d in
       runs_on (past c.place) c.depth (store_at c.lines a w)
       (record {
@@ -195,9 +195,9 @@ module _ (e : Engine) (j : Journal) (h : Inv e j) (i : ℕ) (b : i < length e.co
       again a q held = elim (cases_Bool (eqb a q)) [ inl t ↦ rw t (sym (rw (eqb-true a q t) at held)) | inr t ↦ rw t refl ]
 
   -- a store that makes a line
-  stores-memory : (a w : ℕ) → Comes (InnerStores a w) → holds c.lines a ≡ false →
+  stores_memory : (a w : ℕ) → Comes (InnerStores a w) → holds c.lines a ≡ false →
       InvAfter e j i ask (becomes (view_of e i) (performed c (past c.place) c.depth (c.lines ++ stored_line a w ∷ [])) Running)
-  stores-memory a w d absent =
+  stores_memory a w d absent =
       let l = stored_line a w in
       let t = decoded e.program (length e.memory) c.place c.depth c.count (InnerStores a w) d in
       runs_on (past c.place) c.depth (c.lines ++ l ∷ [])
@@ -221,12 +221,12 @@ module _ (e : Engine) (j : Journal) (h : Inv e j) (i : ℕ) (b : i < length e.co
   transaction (InnerFaults f) d = faults f d
   transaction (InnerMoves p depth) d = moves p depth d
   transaction (InnerLoads a k) d =
-      cond_both (holds c.lines a) _ _ (InvAfter e j i ask) (loads-line a k d)
-      (λ absent. cond_both (ltb (length c.lines) e.capacity) _ _ (InvAfter e j i ask) (λ _. loads-memory a k d absent) (λ _. takes-early))
+      cond_both (holds c.lines a) _ _ (InvAfter e j i ask) (loads_line_lem a k d)
+      (λ absent. cond_both (ltb (length c.lines) e.capacity) _ _ (InvAfter e j i ask) (λ _. loads_memory a k d absent) (λ _. takes_early))
   transaction (InnerStores a w) d =
-      cond_both (holds c.lines a) _ _ (InvAfter e j i ask) (stores-line a w d)
-      (λ absent. cond_both (ltb (length c.lines) e.capacity) _ _ (InvAfter e j i ask) (λ _. stores-memory a w d absent) (λ _. takes-early))
-  transaction (InnerSends y) d = takes-early
+      cond_both (holds c.lines a) _ _ (InvAfter e j i ask) (stores_line_lem a w d)
+      (λ absent. cond_both (ltb (length c.lines) e.capacity) _ _ (InvAfter e j i ask) (λ _. stores_memory a w d absent) (λ _. takes_early))
+  transaction (InnerSends y) d = takes_early
   transaction Closes d = ending d
-  transaction Restarts d = only_core e j h i b ask (rolled_back c) Retried not-i (rw st refl) tt refl
-  transaction TakesToken d = takes-early
+  transaction Restarts d = only_core e j h i b ask (rolled_back c) Retried not_i (rw st refl) tt refl
+  transaction TakesToken d = takes_early

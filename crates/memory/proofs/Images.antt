@@ -17,23 +17,23 @@ image_outside bs a w h = let t = le-ltb a (length (memory_in bs)) h in rw t
 
 module _ (bs : List ℕ) (a w : ℕ) (fits : w < 4294967296) (inside : a < length (memory_in bs)) where
   -- the words after a write inside
-  pub image-words : memory_in (pasted bs (4 * a) (bytes_of w)) ≡ written (memory_in bs) a w
-  image-words =
+  pub image_words : memory_in (pasted bs (4 * a) (bytes_of w)) ≡ written (memory_in bs) a w
+  image_words =
       ap (take 65536) (words_pasted bs a w fits (below_length 65536 (words_in bs) a inside))
       ∙ leaves_front 65536 (words_in bs) a w inside
 
   -- there are as many as before
-  image-length : length (memory_in (pasted bs (4 * a) (bytes_of w))) ≡ length (memory_in bs)
-  image-length =
-      ap length image-words ∙ ap length (sym (leaves_inside (memory_in bs) a w inside)) ∙ length-set (memory_in bs) a w
+  image_length : length (memory_in (pasted bs (4 * a) (bytes_of w))) ≡ length (memory_in bs)
+  image_length =
+      ap length image_words ∙ ap length (sym (leaves_inside (memory_in bs) a w inside)) ∙ length-set (memory_in bs) a w
 
   -- the bytes past them stay
-  pub image-beside : drop (4 * length (memory_in (pasted bs (4 * a) (bytes_of w)))) (pasted bs (4 * a) (bytes_of w)) ≡ drop (4 * length (memory_in bs)) bs
-  image-beside =
+  pub image_beside : drop (4 * length (memory_in (pasted bs (4 * a) (bytes_of w)))) (pasted bs (4 * a) (bytes_of w)) ≡ drop (4 * length (memory_in bs)) bs
+  image_beside =
       let k = quad_inside bs a inside in
-      ap (λ n. drop (4 * n) (pasted bs (4 * a) (bytes_of w))) image-length
+      ap (λ n. drop (4 * n) (pasted bs (4 * a) (bytes_of w))) image_length
       ∙ past_paste bs (4 * a) (bytes_of w) (4 * length (memory_in bs)) (omega arith) (omega arith)
 
   -- all bytes after it
-  pub image-inside : pasted bs (4 * a) (bytes_of w) ≡ bytes_written bs a w
-  image-inside = let t = lt-ltb a (length (memory_in bs)) inside in rw t
+  pub image_inside : pasted bs (4 * a) (bytes_of w) ≡ bytes_written bs a w
+  image_inside = let t = lt-ltb a (length (memory_in bs)) inside in rw t

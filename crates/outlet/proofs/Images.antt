@@ -11,46 +11,46 @@ use Rattle.outlet.specs.Ring.{wrapped, ring_of, count_claimed, first_released}
 use Rattle.outlet.specs.Waiting.{sent}
 use Rattle.outlet.proofs.Rings.{wrapped_inside}
 use Rattle.outlet.proofs.Slots.{entries_length, entries_put, entry_at}
-use Rattle.outlet.proofs.Turns.{claimed-room, claimed-place, sends, released-some, released-place}
+use Rattle.outlet.proofs.Turns.{claimed_room, claimed_place, sends, released_some, released_place}
 
 module _ (bs : List ℕ) (places first count place : ℕ) (whole : places ≡ length bs / 5) (inside : first ≤ places - 1) (v : Some place ≡ cond (ltb count places) (Some (wrapped places (first + count))) None) where
   -- the claimed slot is one of the slots
-  pub claimed-inside : place < length bs / 5
-  claimed-inside =
-      let h = claimed-room places first count place v in
-      let p = claimed-place places first count place v in
+  pub claimed_inside : place < length bs / 5
+  claimed_inside =
+      let h = claimed_room places first count place v in
+      let p = claimed_place places first count place v in
       let k = wrapped_inside places first count (omega arith) (omega arith) in
       omega arith
 
   -- an entry put there waits behind the others
-  pub image-sends : (e : SentEntry) → ring_of (entries_in (with_entry 5 (sent_bytes e) bs place)) first (count + 1) ≡ sent (ring_of (entries_in bs) first count) (places - count) e
-  image-sends e =
-      ap (λ es. ring_of es first (count + 1)) (entries_put bs place e claimed-inside)
+  pub image_sends : (e : SentEntry) → ring_of (entries_in (with_entry 5 (sent_bytes e) bs place)) first (count + 1) ≡ sent (ring_of (entries_in bs) first count) (places - count) e
+  image_sends e =
+      ap (λ es. ring_of es first (count + 1)) (entries_put bs place e claimed_inside)
       ∙ sends (entries_in bs) places first count place (entries_length bs ∙ sym whole) inside v e
 
   -- all bytes after it
-  pub image-bytes : (e : SentEntry) → with_entry 5 (sent_bytes e) bs place ≡ bytes_sent bs (places - count) (wrapped places (first + count)) e
-  image-bytes e =
-      let h = claimed-room places first count place v in
+  pub image_bytes : (e : SentEntry) → with_entry 5 (sent_bytes e) bs place ≡ bytes_sent bs (places - count) (wrapped places (first + count)) e
+  image_bytes e =
+      let h = claimed_room places first count place v in
       let t = lt-ltb 0 (places - count) (omega arith) in
-      ap (with_entry 5 (sent_bytes e) bs) (claimed-place places first count place v) ∙ rw t
+      ap (with_entry 5 (sent_bytes e) bs) (claimed_place places first count place v) ∙ rw t
 
 module _ (bs : List ℕ) (places first count place : ℕ) (whole : places ≡ length bs / 5) (inside : first ≤ places - 1) (filled : count ≤ places) (v : Some place ≡ cond (ltb 0 count) (Some first) None) where
   -- the released slot is one of the slots
-  pub released-inside : place < length bs / 5
-  released-inside =
-      let h = released-some first count place v in
-      let p = released-place first count place v in
+  pub released_inside : place < length bs / 5
+  released_inside =
+      let h = released_some first count place v in
+      let p = released_place first count place v in
       omega arith
 
   -- the entry in it
-  pub image-takes : (d : SentEntry) → entry_in bs place ≡ get_or (entries_in bs) place d
-  image-takes d = sym (entry_at bs place d released-inside)
+  pub image_takes : (d : SentEntry) → entry_in bs place ≡ get_or (entries_in bs) place d
+  image_takes d = sym (entry_at bs place d released_inside)
 
 -- what an outlet over bytes stands on after sending and taking
 module _ (buffer after : GName) (bs new : List ℕ) (places first count first' count' : ℕ) (whole : places ≡ length bs / 5) (named : after ≡ buffer) where
-  pub stands-sent : (e : SentEntry) → new ≡ bytes_sent bs (places - count) (wrapped places (first + count)) e → first' ≡ first → count' ≡ count_claimed places count → over after new first' count' ≡ beside_sent (over buffer bs first count) e
-  stands-sent e n f c = rw (named, n, f, c, whole)
+  pub stands_sent : (e : SentEntry) → new ≡ bytes_sent bs (places - count) (wrapped places (first + count)) e → first' ≡ first → count' ≡ count_claimed places count → over after new first' count' ≡ beside_sent (over buffer bs first count) e
+  stands_sent e n f c = rw (named, n, f, c, whole)
 
-  pub stands-taken : new ≡ bs → first' ≡ first_released places first count → count' ≡ count - 1 → over after new first' count' ≡ beside_taken (over buffer bs first count)
-  stands-taken n f c = rw (named, n, f, c, whole)
+  pub stands_taken : new ≡ bs → first' ≡ first_released places first count → count' ≡ count - 1 → over after new first' count' ≡ beside_taken (over buffer bs first count)
+  stands_taken n f c = rw (named, n, f, c, whole)

@@ -30,13 +30,13 @@ wrapped_inside n f c hf hc = grind (arith, nat_tests)
 
 module _ {A : Type 0} (xs : List A) (first count : ℕ) where
   -- an entry of the ring
-  ring-at : (k : ℕ) (d : A) → k < count → get_or (ring_of xs first count) k d ≡ get_or xs (wrapped (length xs) (first + k)) d
-  ring-at k d h =
+  ring_at : (k : ℕ) (d : A) → k < count → get_or (ring_of xs first count) k d ≡ get_or xs (wrapped (length xs) (first + k)) d
+  ring_at k d h =
       get_or-take count (drop first (xs ++ xs)) k d h ∙ get_or-drop first (xs ++ xs) k d ∙ round_at xs (first + k) d
 
   -- how many it has
-  ring-length : first < length xs → count ≤ length xs → length (ring_of xs first count) ≡ count
-  ring-length hf hc =
+  ring_length : first < length xs → count ≤ length xs → length (ring_of xs first count) ≡ count
+  ring_length hf hc =
       let a = length-take count (drop first (xs ++ xs)) in
       let b = length-drop first (xs ++ xs) in
       let c = length-append xs xs in
@@ -44,22 +44,22 @@ module _ {A : Type 0} (xs : List A) (first count : ℕ) where
 
 module _ {A : Type 0} (xs : List A) (first count : ℕ) (e : A) (hf : first < length xs) (hc : count < length xs) where
   -- an entry put behind the others leaves them
-  ring-kept : ring_of (set xs (wrapped (length xs) (first + count)) e) first count ≡ ring_of xs first count
-  ring-kept =
+  ring_kept : ring_of (set xs (wrapped (length xs) (first + count)) e) first count ≡ ring_of xs first count
+  ring_kept =
       let p = wrapped (length xs) (first + count) in
       let l : length (set xs p e) ≡ length xs = length-set xs p e in
       same_lists (ring_of (set xs p e) first count) (ring_of xs first count)
-      (ring-length (set xs p e) first count (omega arith) (omega arith) ∙ sym (ring-length xs first count hf (omega arith)))
+      (ring_length (set xs p e) first count (omega arith) (omega arith) ∙ sym (ring_length xs first count hf (omega arith)))
       (λ k d h.
-      let j : k < count = omega (arith, ring-length (set xs p e) first count (omega arith) (omega arith)) in
-      ring-at (set xs p e) first count k d j
+      let j : k < count = omega (arith, ring_length (set xs p e) first count (omega arith) (omega arith)) in
+      ring_at (set xs p e) first count k d j
       ∙ ap (λ n. get_or (set xs p e) (wrapped n (first + k)) d) l
       ∙ get_or-set_other xs p (wrapped (length xs) (first + k)) e d (wrapped_apart (length xs) first k count hf hc j)
-      ∙ sym (ring-at xs first count k d j))
+      ∙ sym (ring_at xs first count k d j))
 
   -- and is the last
-  pub ring-more : ring_of (set xs (wrapped (length xs) (first + count)) e) first (count + 1) ≡ ring_of xs first count ++ e ∷ []
-  ring-more =
+  pub ring_more : ring_of (set xs (wrapped (length xs) (first + count)) e) first (count + 1) ≡ ring_of xs first count ++ e ∷ []
+  ring_more =
       let p = wrapped (length xs) (first + count) in
       let ys = set xs p e in
       let l : length ys ≡ length xs = length-set xs p e in
@@ -71,7 +71,7 @@ module _ {A : Type 0} (xs : List A) (first count : ℕ) (e : A) (hf : first < le
       ∙ get_or-set_same xs p e e (wrapped_inside (length xs) first count hf (omega arith)) in
       take_more (drop first (ys ++ ys)) count e (omega arith)
       ∙ ap (λ x. take count (drop first (ys ++ ys)) ++ x ∷ []) here
-      ∙ ap (λ zs. zs ++ e ∷ []) ring-kept
+      ∙ ap (λ zs. zs ++ e ∷ []) ring_kept
 
 -- the oldest entry stands at the first place, and the others from the next on
 pub ring_less : {A : Type 0} (xs : List A) (first count : ℕ) (d : A) → first < length xs → 0 < count → count ≤ length xs → ring_of xs first count ≡ get_or xs first d ∷ ring_of xs (wrapped (length xs) (first + 1)) (count - 1)

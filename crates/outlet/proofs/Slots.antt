@@ -34,16 +34,16 @@ module _ (bs new : List ℕ) (i : ℕ) (inside : i < length bs / 5) (five : leng
   after = written 5 new bs i (i * 5) inside refl
 
   -- are in the slot then
-  slot-put : entry_bytes 5 (with_entry 5 new bs i) i ≡ new
-  slot-put =
+  slot_put : entry_bytes 5 (with_entry 5 new bs i) i ≡ new
+  slot_put =
       let n : i * 5 + 5 - i * 5 ≡ 5 = omega arith in
       ap (λ l. entry_bytes 5 l i) (sym after)
       ∙ ap (λ m. take m (drop (i * 5) (put_mid (i * 5) 5 bs new))) (sym n)
       ∙ between-put_mid (i * 5) 5 bs new (i * 5 + 5) (omega arith) (omega arith)
 
   -- and leave the slots before it and behind it
-  slot-before : (k : ℕ) → k < i → entry_bytes 5 (with_entry 5 new bs i) k ≡ entry_bytes 5 bs k
-  slot-before k h =
+  slot_before : (k : ℕ) → k < i → entry_bytes 5 (with_entry 5 new bs i) k ≡ entry_bytes 5 bs k
+  slot_before k h =
       let n : k * 5 + 5 - k * 5 ≡ 5 = omega arith in
       ap (λ l. entry_bytes 5 l k) (sym after)
       ∙ ap (λ m. take m (drop (k * 5) (put_mid (i * 5) 5 bs new))) (sym n)
@@ -52,21 +52,21 @@ module _ (bs new : List ℕ) (i : ℕ) (inside : i < length bs / 5) (five : leng
       ∙ sym (between_is bs (k * 5) (k * 5 + 5))
       ∙ ap (λ m. take m (drop (k * 5) bs)) n
 
-  slot-behind : (k : ℕ) → i < k → entry_bytes 5 (with_entry 5 new bs i) k ≡ entry_bytes 5 bs k
-  slot-behind k h =
+  slot_behind : (k : ℕ) → i < k → entry_bytes 5 (with_entry 5 new bs i) k ≡ entry_bytes 5 bs k
+  slot_behind k h =
       ap (λ l. entry_bytes 5 l k) (sym after)
       ∙ ap (take 5) (drop-put_mid (i * 5) 5 bs new (k * 5) (omega arith) (omega arith) five)
 
   -- the bytes stay as many
-  put-length : length (with_entry 5 new bs i) ≡ length bs
-  put-length = ap length (sym after) ∙ simp (length-append, length-drop, length-take) (omega arith)
+  put_length : length (with_entry 5 new bs i) ≡ length bs
+  put_length = ap length (sym after) ∙ simp (length-append, length-drop, length-take) (omega arith)
 
 -- an entry put into a slot is in it, and all other slots hold what they held
 pub entries_put : (bs : List ℕ) (i : ℕ) (e : SentEntry) → i < length bs / 5 → entries_in (with_entry 5 (sent_bytes e) bs i) ≡ set (entries_in bs) i e
 entries_put bs i e h =
     let five : length (sent_bytes e) ≡ 5 = (bytes_sized 5 (sent_code e)).0 in
     let after : List ℕ = with_entry 5 (sent_bytes e) bs i in
-    let many : length (entries_in after) ≡ length bs / 5 = entries_length after ∙ ap (λ n. n / 5) (put-length bs (sent_bytes e) i h five) in
+    let many : length (entries_in after) ≡ length bs / 5 = entries_length after ∙ ap (λ n. n / 5) (put_length bs (sent_bytes e) i h five) in
     let l : length (entries_in bs) ≡ length bs / 5 = entries_length bs in
     same_lists (entries_in after) (set (entries_in bs) i e)
     (many ∙ sym l ∙ sym (length-set (entries_in bs) i e))
@@ -75,18 +75,18 @@ entries_put bs i e h =
     entry_at after k d (omega (arith, entries_length after))
     ∙ elim (cases_lt k i) [
       | inl lt ↦
-          ap (λ (s : List ℕ). sent_of (spelled s)) (slot-before bs (sent_bytes e) i h five k lt)
+          ap (λ (s : List ℕ). sent_of (spelled s)) (slot_before bs (sent_bytes e) i h five k lt)
           ∙ sym (entry_at bs k d in-bs)
           ∙ sym (get_or-set_other (entries_in bs) i k e d (λ same. omega arith))
       | inr ge ↦ elim (cases_lt i k) [
         | inl lt ↦
-            ap (λ (s : List ℕ). sent_of (spelled s)) (slot-behind bs (sent_bytes e) i h five k lt)
+            ap (λ (s : List ℕ). sent_of (spelled s)) (slot_behind bs (sent_bytes e) i h five k lt)
             ∙ sym (entry_at bs k d in-bs)
             ∙ sym (get_or-set_other (entries_in bs) i k e d (λ same. omega arith))
         | inr le ↦
             let same : k ≡ i = omega arith in
             ap (entry_in after) same
-            ∙ ap (λ (s : List ℕ). sent_of (spelled s)) (slot-put bs (sent_bytes e) i h five)
+            ∙ ap (λ (s : List ℕ). sent_of (spelled s)) (slot_put bs (sent_bytes e) i h five)
             ∙ entry_again e
             ∙ sym (get_or-set_same (entries_in bs) i e d (omega arith))
             ∙ ap (λ j. get_or (set (entries_in bs) i e) j d) (sym same)

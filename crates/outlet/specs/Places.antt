@@ -1,6 +1,6 @@
 -- What stands in the places of a ring: the entries that wait, the room, the place of the next entry; and the ring itself, empty and after each call.
 use Rattle.std.specs.Prelude.{◌≡◌, ℕ, ◌+◌, ◌-◌, List}
-use Rattle.std.specs.Borrow.{Bor, MutBor}
+use Rattle.std.specs.Borrow.{MutBor}
 use Rattle.formats.specs.declared.entry.SentEntry.{SentEntry}
 use Rattle.outlet.specs.Beside.{Beside, over}
 use Rattle.outlet.specs.Bytes.{entries_in}
@@ -12,7 +12,7 @@ abbrev pub in_ring : {A : Type 0} → List A → Ring → List A
 in_ring xs ring = ring_of xs ring.first ring.count
 
 -- those of an outlet over bytes
-abbrev pub waiting_in : Bor (List ℕ) → Ring → List SentEntry
+abbrev pub waiting_in : MutBor (List ℕ) → Ring → List SentEntry
 waiting_in bytes ring = in_ring (entries_in bytes.now) ring
 
 -- how many more there is room for

@@ -26,11 +26,11 @@ at_place_err place (Err f) p is = let e : record { fault = f; place = place } �
 
 module _ {E F : Type 0} (w : ℕ) (unpacked : List ℕ → Result E F) (bytes : List ℕ) (place : ℕ) (inside : place < length bytes / w) where
   -- what stands at a place inside, from what its bytes unpack to
-  pub entry-ok : (e : E) → placed_fault place (unpacked (entry_bytes w bytes place)) ≡ Ok e → Ok e ≡ entry_at w unpacked bytes place
-  entry-ok e is = rw (lt-ltb place (length bytes / w) inside) (sym (at_place_ok place (unpacked (entry_bytes w bytes place)) e is))
+  pub entry_ok : (e : E) → placed_fault place (unpacked (entry_bytes w bytes place)) ≡ Ok e → Ok e ≡ entry_at w unpacked bytes place
+  entry_ok e is = rw (lt-ltb place (length bytes / w) inside) (sym (at_place_ok place (unpacked (entry_bytes w bytes place)) e is))
 
-  pub entry-err : (p : Placed F) → placed_fault place (unpacked (entry_bytes w bytes place)) ≡ Err p → Err (Entry p) ≡ entry_at w unpacked bytes place
-  entry-err p is = rw (lt-ltb place (length bytes / w) inside) (sym (at_place_err place (unpacked (entry_bytes w bytes place)) p is))
+  pub entry_err : (p : Placed F) → placed_fault place (unpacked (entry_bytes w bytes place)) ≡ Err p → Err (Entry p) ≡ entry_at w unpacked bytes place
+  entry_err p is = rw (lt-ltb place (length bytes / w) inside) (sym (at_place_err place (unpacked (entry_bytes w bytes place)) p is))
 
 -- what a write to the entry's bytes leaves
 pub written : (w : ℕ) (packed bytes : List ℕ) (place a : ℕ) → place < length bytes / w → a ≡ place * w → put_mid a w bytes packed ≡ with_entry w packed bytes place

@@ -8,14 +8,14 @@ use codecs::packed::PackedEntry;
 
 // How many whole entries the bytes hold. Bytes past the last whole entry are spare.
 pub fn count<E: PackedEntry>(bytes: &[u8]) -> usize
-    ensures { result ≡ entry_count width bytes.now }
+    ensures { result ≡ entry_count E.width bytes.now }
 {
     bytes.len() / E::size()
 }
 
 // Where the bytes of the entry at a place begin, or None where the place is outside.
 fn start<E: PackedEntry>(len: usize, place: usize) -> Option<usize>
-    ensures { MatchOption result (len / width ≤ place) (λ from. (place < len / width) × (from ≡ place * width) × (from + width ≤ len)) }
+    ensures { MatchOption result (len / E.width ≤ place) (λ from. (place < len / E.width) × (from ≡ place * E.width) × (from + E.width ≤ len)) }
 {
     let size = E::size();
     if place < len / size {
@@ -27,7 +27,7 @@ fn start<E: PackedEntry>(len: usize, place: usize) -> Option<usize>
 
 // The entry at a place, or why there is none.
 pub fn get<E: PackedEntry>(bytes: &[u8], place: usize) -> Result<E, ListRefusal<E::Fault>>
-    ensures { result ≡ entry_at width unpacked bytes.now place }
+    ensures { result ≡ entry_at E.width E.unpacked bytes.now place }
 {
     let Some(from) = start::<E>(bytes.len(), place) else {
         return Err(ListRefusal::Outside);
@@ -44,8 +44,8 @@ pub fn put<E: PackedEntry + Drop>(
     place: usize,
     entry: E,
 ) -> Result<(), OutsideList>
-    ensures after { bytes.new ≡ with_entry width (packed entry) bytes.old place }
-    ensures answer { result ≡ put_answer width bytes.old place }
+    ensures after { bytes.new ≡ with_entry E.width (E.packed entry) bytes.old place }
+    ensures answer { result ≡ put_answer E.width bytes.old place }
 {
     let Some(from) = start::<E>(bytes.len(), place) else {
         return Err(OutsideList);

@@ -32,9 +32,9 @@ module _ (k count : ℕ) (bytes : List ℕ) (place : ℕ) (front : List Instruct
   read_more i is = ap (λ r. prepended front (followed_by r (read_from k count bytes (suc place)))) is ∙ followed_ok front i (read_from k count bytes (suc place))
 
   -- the first refusal decides
-  pub read-stop : (r : ProgramRefusal) → instruction_at count bytes place ≡ Err r → prepended front (read_from (suc k) count bytes place) ≡ Err r
+  pub read_stop : (r : ProgramRefusal) → instruction_at count bytes place ≡ Err r → prepended front (read_from (suc k) count bytes place) ≡ Err r
   unfolding read_from
-  read-stop r is = ap (λ r. prepended front (followed_by r (read_from k count bytes (suc place)))) is
+  read_stop r is = ap (λ r. prepended front (followed_by r (read_from k count bytes (suc place)))) is
 
 -- nothing is left to read
 pub read_none : (count : ℕ) (bytes : List ℕ) (place : ℕ) (front : List Instruction) → prepended front (read_from 0 count bytes place) ≡ Ok front
@@ -83,10 +83,10 @@ module _ (count : ℕ) (bytes : List ℕ) (is : List Instruction) (place : ℕ) 
       }
 
   -- a refused instruction refuses the program
-  pub sofar-stop : (r : ProgramRefusal) → place < count → instruction_at count bytes place ≡ Err r → read_from count count bytes 0 ≡ Err r
-  sofar-stop r lt at =
+  pub sofar_stop : (r : ProgramRefusal) → place < count → instruction_at count bytes place ≡ Err r → read_from count count bytes 0 ≡ Err r
+  sofar_stop r lt at =
       let left : count - place ≡ suc (count - (place + 1)) = omega arith in
-      sofar.reads ∙ ap (λ k. prepended (take place is) (read_from k count bytes place)) left ∙ read-stop (count - (place + 1)) count bytes place (take place is) r at
+      sofar.reads ∙ ap (λ k. prepended (take place is) (read_from k count bytes place)) left ∙ read_stop (count - (place + 1)) count bytes place (take place is) r at
 
   -- all is read
   pub sofar_all : place ≡ count → read_from count count bytes 0 ≡ Ok (take count is)
@@ -110,18 +110,18 @@ last_item is count x some h =
 
 -- what reading answers, once the byte count is good
 module _ (bytes : List ℕ) (good : good_count (length bytes) ≡ true) where
-  pub read-refused : (r : ProgramRefusal) → read_from (length bytes / 4) (length bytes / 4) bytes 0 ≡ Err r → Err r ≡ read_program bytes
-  read-refused r is = rw (good, is)
+  pub read_refused : (r : ProgramRefusal) → read_from (length bytes / 4) (length bytes / 4) bytes 0 ≡ Err r → Err r ≡ read_program bytes
+  read_refused r is = rw (good, is)
 
   pub read_whole : (is : List Instruction) → read_from (length bytes / 4) (length bytes / 4) bytes 0 ≡ Ok is → ends (last_of is) ≡ true → Ok is ≡ read_program bytes
   read_whole is all last = rw (good, all, last)
 
-  pub read-endless : (is : List Instruction) → read_from (length bytes / 4) (length bytes / 4) bytes 0 ≡ Ok is → ends (last_of is) ≡ false → Err (record { fault = NoEnd; place = length is - 1 }) ≡ read_program bytes
-  read-endless is all last = rw (good, all, last)
+  pub read_endless : (is : List Instruction) → read_from (length bytes / 4) (length bytes / 4) bytes 0 ≡ Ok is → ends (last_of is) ≡ false → Err (record { fault = NoEnd; place = length is - 1 }) ≡ read_program bytes
+  read_endless is all last = rw (good, all, last)
 
   -- a good byte count gives one to 512 instructions
-  pub count-good : (0 < length bytes / 4) × (length bytes / 4 ≤ 512)
-  count-good =
+  pub count_good : (0 < length bytes / 4) × (length bytes / 4 ≤ 512)
+  count_good =
       let p = and_parts (eqb (length bytes % 4) 0) (leb 4 (length bytes) && leb (length bytes) 2048) good in
       let q = and_parts (leb 4 (length bytes)) (leb (length bytes) 2048) p.1 in
       (omega (arith, leb-true 4 (length bytes) q.0), omega (arith, leb-true (length bytes) 2048 q.1))
@@ -152,8 +152,8 @@ inside_at count (i ∷ is) (suc k) t = inside_at count is k (and_parts (target_i
 -- what holds of each instruction of an accepted program
 module _ (is : List Instruction) (count : ℕ) (few : count ≤ 512) (sized : length is ≡ 512) where
   -- its jump stays below 512
-  pub jumps-below : (k : ℕ) → targets_inside count (take count is) ≡ true → target_inside 512 (get_or (take count is) k Halt) ≡ true
-  jumps-below k t = inside_more count 512 few (get_or (take count is) k Halt) (inside_at count (take count is) k t)
+  pub jumps_below : (k : ℕ) → targets_inside count (take count is) ≡ true → target_inside 512 (get_or (take count is) k Halt) ≡ true
+  jumps_below k t = inside_more count 512 few (get_or (take count is) k Halt) (inside_at count (take count is) k t)
 
   -- and there is a next place where it goes on
   pub goes_on : (k : ℕ) → 0 < count → ends (last_of (take count is)) ≡ true → ends (get_or (take count is) k Halt) ≡ false → k < 511

@@ -10,8 +10,8 @@ use model::place::Line;
 impl Buffer {
     // The buffer with one more line, at an address that has none.
     pub(crate) fn with_line(self, line: Line) -> Buffer
-        requires self_len_bound { length (lines_of self) < 32 }
-        requires address_value { holds (lines_of self) line.address ≡ false }
+        requires room { length (lines_of self) < 32 }
+        requires fresh { holds (lines_of self) line.address ≡ false }
         ensures { lines_of result ≡ lines_of self ++ line ∷ [] }
     {
         let mut lines = self.lines;

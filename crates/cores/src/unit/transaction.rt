@@ -43,10 +43,10 @@ impl Core {
 
     // A new line is made, if there is room for it; if not the block takes the token.
     fn with_line(self, scene: Scene, place: Place, line: Line) -> Stepped
-        requires state_value { self.state ≡ Transaction }
+        requires state { self.state ≡ Transaction }
         requires count_bound { self.count < 4096 }
         requires pc_bound { place.pc ≤ 511 }
-        requires address_value { holds (lines_of self.buffer) line.address ≡ false }
+        requires fresh { holds (lines_of self.buffer) line.address ≡ false }
         ensures { stepped_of result ≡ with_line (scene_of scene) (core_of self) place line }
     {
         if self.buffer.len() < scene.capacity {
@@ -59,7 +59,7 @@ impl Core {
 
     // A load: from the line at the address, or by a new line with the memory's word.
     fn loads(self, scene: Scene, address: usize, d: Register) -> Stepped
-        requires state_value { self.state ≡ Transaction }
+        requires state { self.state ≡ Transaction }
         requires count_bound { self.count < 4096 }
         requires pc_bound { self.place.pc < 511 }
         ensures { stepped_of result ≡ loads_line scene (core_of self) address d }
@@ -84,7 +84,7 @@ impl Core {
 
     // A store: to the line at the address, or by a new line.
     fn stores(self, scene: Scene, address: usize, word: u32) -> Stepped
-        requires state_value { self.state ≡ Transaction }
+        requires state { self.state ≡ Transaction }
         requires count_bound { self.count < 4096 }
         requires pc_bound { self.place.pc < 511 }
         ensures { stepped_of result ≡ stores_line scene (core_of self) address word }

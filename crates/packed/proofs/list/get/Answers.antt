@@ -2,7 +2,7 @@ use Rattle.std.proofs.Common.{◌≡◌, sym, ap, ◌∙◌}
 use Rattle.answers.specs.Refusals.{placed_fault}
 use Rattle.std.proofs.lemmas.Result.{err_from_is_err_and}
 use Rattle.packed.specs.List.{entry_bytes}
-use Rattle.packed.proofs.Entries.{unpacked_code, entry-ok, entry-err}
+use Rattle.packed.proofs.Entries.{unpacked_code, entry_ok, entry_err}
 use Rattle.packed.proofs.list.get.Given as given
 use Rattle.packed.proofs.list.get.Goals as goal
 use Rattle.packed.proofs.list.get.Goals.{After-at_place}
@@ -18,9 +18,9 @@ returns-in_err-entry g c =
     let p = err_from_is_err_and c.from_residual.result c.from_residual.ensures.1 in
     let t = told g (goal.at.returns-in_err-entry g c).After-at_place in
     rw (p.1, p.2)
-    (entry-err g.E.PackedEntry.width g.E.PackedEntry.unpacked c.args.bytes.now c.args.place c.in-Some.ensures.0 c.in_err-entry.field-0.0 (sym t ∙ c.in_err-entry.was))
+    (entry_err g.E.PackedEntry.width g.E.PackedEntry.unpacked c.args.bytes.now c.args.place c.in-Some.ensures.0 c.in_err-entry.field-0.0 (sym t ∙ c.in_err-entry.was))
 
 pub returns : goal.returns
 returns g c =
     let t = told g (goal.at.returns g c).After-at_place in
-    entry-ok g.E.PackedEntry.width g.E.PackedEntry.unpacked c.args.bytes.now c.args.place c.in-Some.ensures.0 c.in_ok-entry.entry (sym t ∙ c.in_ok-entry.was)
+    entry_ok g.E.PackedEntry.width g.E.PackedEntry.unpacked c.args.bytes.now c.args.place c.in-Some.ensures.0 c.in_ok-entry.entry (sym t ∙ c.in_ok-entry.was)

@@ -6,9 +6,9 @@ pub returns-in_err-number : goal.returns-in_err-number
 unfolding times_of
 returns-in_err-number c = search rules
 
-pub returns-then-number-gt-MOST-TIMES : goal.returns-then-number-gt-MOST-TIMES
+pub returns-then-number-gt-MOST_TIMES : goal.returns-then-number-gt-MOST_TIMES
 unfolding times_of
-returns-then-number-gt-MOST-TIMES c = search rules
+returns-then-number-gt-MOST_TIMES c = search rules
 
 pub returns : goal.returns
 unfolding times_of

@@ -1,14 +1,14 @@
 use Rattle.std.proofs.Common.{◌<◌, eqb, arith, eq-eqb}
 use Rattle.cores.specs.Buffers.{no_line}
-use Rattle.cores.proofs.Searches.{front-here, front-none}
+use Rattle.cores.proofs.Searches.{front_here, front_none}
 use Rattle.cores.proofs.buffer.Buffer.first_dirty.Goals as goal
 
 pub returns-then-self-i : goal.returns-then-self-i
 returns-then-self-i c =
     let b = c.args.self.now in
-    front-here (λ l. l.dirty) b.lines b.used (omega (arith, b.sized, b.few)) c.loop-i.i no_line c.loop-i-test.true c.loop-i.invariant c.if-self-i.true
+    front_here (λ l. l.dirty) b.lines b.used (omega (arith, b.sized, b.few)) c.loop-i.i no_line c.loop-i-test.true c.loop-i.invariant c.if-self-i.true
 
 pub returns : goal.returns
 returns c =
     let b = c.args.self.now in
-    front-none (λ l. l.dirty) b.lines b.used (omega (arith, b.sized, b.few)) (λ k lt. c.loop-i.invariant k (omega (arith, c.loop-i-test.false)))
+    front_none (λ l. l.dirty) b.lines b.used (omega (arith, b.sized, b.few)) (λ k lt. c.loop-i.invariant k (omega (arith, c.loop-i-test.false)))

@@ -1,7 +1,7 @@
 use Rattle.std.proofs.Common.{◌≡◌, ℕ, ◌+◌, ◌<◌, ◌≤◌, List, length, take, sym, ◌∙◌, subst, arith}
 use Rattle.model.specs.Calls.{tag_count}
 use Rattle.cores.specs.Buffers.{lines_of}
-use Rattle.cores.proofs.Tags.{Copied, copied_none, copied-tagged, copied-plain, copied_all, place-left, count_few, too_short}
+use Rattle.cores.proofs.Tags.{Copied, copied_none, copied_tagged, copied_plain, copied_all, place_left, count_few, too_short}
 use Rattle.cores.proofs.buffer.Buffer.tags.Goals as goal
 use Rattle.cores.proofs.buffer.Buffer.tags.Goals.{Then-line, then-line, else-line}
 
@@ -12,16 +12,16 @@ loop-i-init c = copied_none c.args.self.now.lines c.args.list.now
 room : (c : Then-line) → c.loop-i.number < length c.loop-i.list
 room c =
     let b = c.args.self.now in
-    place-left b.lines c.loop-i.i c.args.list.now c.loop-i.list c.loop-i.number c.loop-i.invariant (omega (arith, b.few, b.sized)) b.used c.loop-i-test.true c.if-line.true (omega (arith, c.tag_count.ensures, c.if-tag_count-list.false))
+    place_left b.lines c.loop-i.i c.args.list.now c.loop-i.list c.loop-i.number c.loop-i.invariant (omega (arith, b.few, b.sized)) b.used c.loop-i-test.true c.if-line.true (omega (arith, c.tag_count.ensures, c.if-tag_count-list.false))
 
 few : (c : Then-line) → c.loop-i.number < 32
 few c = let b = c.args.self.now in omega (arith, c.loop-i.invariant.counted, b.few, count_few b.lines c.loop-i.i)
 
-pub offset_bounds-list_number : goal.offset_bounds-list_number
-offset_bounds-list_number c = omega (arith, few (goal.at.offset_bounds-list_number c).Then-line)
+pub offset_bounds-list-number : goal.offset_bounds-list-number
+offset_bounds-list-number c = omega (arith, few (goal.at.offset_bounds-list-number c).Then-line)
 
-pub bounds-list_number : goal.bounds-list_number
-bounds-list_number c = room (goal.at.bounds-list_number c).Then-line
+pub bounds-list-number : goal.bounds-list-number
+bounds-list-number c = room (goal.at.bounds-list-number c).Then-line
 
 pub overflow_add-number : goal.overflow_add-number
 overflow_add-number c = omega (arith, few (goal.at.overflow_add-number c).Then-line)
@@ -32,10 +32,10 @@ loop-i-preserved c =
     let within : c.loop-i.i < length b.lines = omega (arith, b.few, b.sized) in
     elim c.if-line.branch [
       | then-line w ↦
-          let left = place-left b.lines c.loop-i.i c.args.list.now c.loop-i.list c.loop-i.number c.loop-i.invariant within b.used c.loop-i-test.true w.if-line.true (omega (arith, c.tag_count.ensures, c.if-tag_count-list.false)) in
-          simp (w.list-is, w.number-is) (copied-tagged b.lines c.loop-i.i c.args.list.now c.loop-i.list c.loop-i.number c.loop-i.invariant within w.if-line.true left)
+          let left = place_left b.lines c.loop-i.i c.args.list.now c.loop-i.list c.loop-i.number c.loop-i.invariant within b.used c.loop-i-test.true w.if-line.true (omega (arith, c.tag_count.ensures, c.if-tag_count-list.false)) in
+          simp (w.list-is, w.number-is) (copied_tagged b.lines c.loop-i.i c.args.list.now c.loop-i.list c.loop-i.number c.loop-i.invariant within w.if-line.true left)
       | else-line w ↦
-          simp (w.list-is, w.number-is) (copied-plain b.lines c.loop-i.i c.args.list.now c.loop-i.list c.loop-i.number c.loop-i.invariant within w.if-line.false)
+          simp (w.list-is, w.number-is) (copied_plain b.lines c.loop-i.i c.args.list.now c.loop-i.list c.loop-i.number c.loop-i.invariant within w.if-line.false)
     ]
 
 pub returns : goal.returns

@@ -8,7 +8,7 @@ use Rattle.cores.specs.declared.decide.Outer.{Outer}
 use Rattle.cores.specs.Decisions.{outer_of, OnwardOuter}
 use Rattle.cores.specs.Steps.{scene_of}
 use Rattle.cores.specs.Units.{core_of}
-use Rattle.cores.proofs.Steps.{plain-load}
+use Rattle.cores.proofs.Steps.{plain_load}
 use Rattle.cores.proofs.unit.Core.in_bypass.Goals as goal
 
 pub returns-in-Free : goal.returns-in-Free
@@ -18,5 +18,5 @@ returns-in-Free c =
     let there = (subst (λ (o : Outer). OnwardOuter core.place s.words o) c.in-Loads.is c.requires.onward).1 in
     c.plain-in-Free.ensures
     ∙ ap (λ (p : Place). plain (scene_of s) (core_of core) Bypass p Nothing) c.put-place.ensures
-    ∙ plain-load s (core_of core) c.in-Loads.address there (λ w. put_reg core.place.registers c.in-Loads.d w) c.in-Free.is
+    ∙ plain_load s (core_of core) c.in-Loads.address there (λ w. put_reg core.place.registers c.in-Loads.d w) c.in-Free.is
     ∙ ap (λ (o : Outer). in_bypass (scene_of s) (core_of core) (outer_of core.place o)) (sym c.in-Loads.is)

@@ -8,7 +8,7 @@ use Rattle.cores.specs.Buffers.{lines_of}
 use Rattle.cores.specs.Decisions.{inner_of, OnwardInner}
 use Rattle.cores.specs.Steps.{scene_of}
 use Rattle.cores.specs.Units.{core_of}
-use Rattle.cores.proofs.Steps.{direct-load}
+use Rattle.cores.proofs.Steps.{direct_load}
 use Rattle.cores.proofs.unit.Core.in_early_commit.Goals as goal
 
 pub returns-in-Loads : goal.returns-in-Loads
@@ -19,5 +19,5 @@ returns-in-Loads c =
     c.becomes-in-Loads.ensures
     ∙ ap (λ (x : ModelCore). becomes (scene_of s) x Running) c.performed-in-Loads.ensures
     ∙ ap (λ (p : Place). becomes (scene_of s) (performed (core_of core) p core.depth (lines_of core.buffer)) Running) c.put-place.ensures
-    ∙ direct-load s (core_of core) c.in-Loads.address there (λ w. put_reg core.place.registers c.in-Loads.d w)
+    ∙ direct_load s (core_of core) c.in-Loads.address there (λ w. put_reg core.place.registers c.in-Loads.d w)
     ∙ ap (λ (o : Inner). in_early_commit (scene_of s) (core_of core) (inner_of core.place o)) (sym c.in-Loads.is)

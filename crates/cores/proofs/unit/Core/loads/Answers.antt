@@ -9,12 +9,17 @@ use Rattle.cores.specs.Buffers.{lines_of}
 use Rattle.cores.specs.Steps.{scene_of}
 use Rattle.cores.specs.Units.{core_of}
 use Rattle.cores.proofs.Buffers.{not_held}
-use Rattle.cores.proofs.Steps.{load_found, load-new}
+use Rattle.cores.proofs.Steps.{load_found, load_new}
 use Rattle.cores.proofs.unit.Core.loads.Goals as goal
 
 pub with_line-requires : goal.with_line-requires
 with_line-requires c =
-    (c.requires.0, c.requires.1, omega (arith, ap (λ (p : Place). p.pc) c.put.ensures), not_held (lines_of c.args.self.buffer) c.args.address (sym c.in-None.ensures))
+    record {
+      state = c.requires.state;
+      count_bound = c.requires.count_bound;
+      pc_bound = omega (arith, ap (λ (p : Place). p.pc) c.put.ensures);
+      fresh = not_held (lines_of c.args.self.buffer) c.args.address (sym c.in-None.ensures);
+    }
 
 pub returns-in-Some : goal.returns-in-Some
 returns-in-Some c =
@@ -32,4 +37,4 @@ returns-in-None c =
     let s = c.args.scene in
     c.with_line.ensures
     ∙ ap (λ (p : Place). with_line (scene_of s) (core_of core) p (loaded_line c.args.address s.word)) c.put.ensures
-    ∙ load-new s (core_of core) c.args.address c.args.d (sym c.in-None.ensures)
+    ∙ load_new s (core_of core) c.args.address c.args.d (sym c.in-None.ensures)

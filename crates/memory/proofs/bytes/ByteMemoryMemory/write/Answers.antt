@@ -3,7 +3,7 @@ use Rattle.memory.specs.Beside.{Beside, over}
 use Rattle.memory.specs.Bytes.{memory_in}
 use Rattle.memory.proofs.Fronts.{answers_inside, answers_outside, leaves_outside}
 use Rattle.memory.proofs.Quads.{quad_inside}
-use Rattle.memory.proofs.Images.{image-words, image-beside, image-inside, image_outside}
+use Rattle.memory.proofs.Images.{image_words, image_beside, image_inside, image_outside}
 use Rattle.memory.proofs.bytes.ByteMemoryMemory.write.Goals as goal
 
 pub put_word-requires : goal.put_word-requires
@@ -19,10 +19,10 @@ returns-then-address-len c =
     let e = c.put_word.ensures in
     record {
       value = answers_inside (memory_in bytes) a h;
-      after = ap memory_in e ∙ image-words bytes a w f h;
+      after = ap memory_in e ∙ image_words bytes a w f h;
       same = ap (λ (bs : List ℕ). over c.args.self.now.bytes.ghost_name (drop (4 * length (memory_in bs)) bs)) e
-          ∙ ap (over c.args.self.now.bytes.ghost_name) (image-beside bytes a w f h);
-      buffer = e ∙ image-inside bytes a w f h;
+          ∙ ap (over c.args.self.now.bytes.ghost_name) (image_beside bytes a w f h);
+      buffer = e ∙ image_inside bytes a w f h;
     }
 
 pub returns-else-address-len : goal.returns-else-address-len

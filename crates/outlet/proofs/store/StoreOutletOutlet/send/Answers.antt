@@ -1,7 +1,7 @@
 use Rattle.std.proofs.Common.{◌≡◌, ◌+◌, ◌<◌, ltb, set, sym, refl, ap, ◌∙◌, arith, rules}
 use Rattle.std.proofs.lemmas.Bool.{lt-ltb}
 use Rattle.outlet.specs.Ring.{ring_of}
-use Rattle.outlet.proofs.Turns.{claimed-room, claimed-answer, sends}
+use Rattle.outlet.proofs.Turns.{claimed_room, claimed_answer, sends}
 use Rattle.outlet.proofs.store.StoreOutletOutlet.send.Goals as goal
 
 pub returns-in-Some : goal.returns-in-Some
@@ -9,11 +9,11 @@ returns-in-Some c =
     let o = c.args.self.now in
     let r = c.args.self.now.ring in
     let v = c.in-Some.ensures.value in
-    let h : r.count < r.places = claimed-room r.places r.first r.count c.in-Some.place v in
+    let h : r.count < r.places = claimed_room r.places r.first r.count c.in-Some.place v in
     let t = lt-ltb r.count r.places h in
     let n : c.claim.new.self.count ≡ r.count + 1 = c.claim.ensures.count ∙ rw t in
     record {
-      value = claimed-answer r.places r.first r.count c.in-Some.place v;
+      value = claimed_answer r.places r.first r.count c.in-Some.place v;
       after = ap (ring_of (set o.entries c.in-Some.place c.args.entry) c.claim.new.self.first) n
           ∙ ap (λ f. ring_of (set o.entries c.in-Some.place c.args.entry) f (r.count + 1)) c.claim.ensures.first
           ∙ sends o.entries r.places r.first r.count c.in-Some.place (o.long ∙ sym o.whole) r.inside v c.args.entry;

@@ -1,7 +1,7 @@
 use Rattle.std.proofs.Common.{◌≡◌, ◌+◌, ◌-◌, ◌<◌, ltb, sym, refl, ap, ◌∙◌, arith}
 use Rattle.std.proofs.lemmas.Bool.{lt-ltb}
 use Rattle.outlet.specs.Ring.{wrapped, ring_of}
-use Rattle.outlet.proofs.Turns.{released-some, takes, takes-rest, takes-room}
+use Rattle.outlet.proofs.Turns.{released_some, takes, takes_rest, takes_room}
 use Rattle.outlet.proofs.store.StoreOutletOutlet.take.Goals as goal
 
 pub returns-in-Some : goal.returns-in-Some
@@ -10,16 +10,16 @@ returns-in-Some c =
     let r = c.args.self.now.ring in
     let v = c.in-Some.ensures.value in
     let long = o.long ∙ sym o.whole in
-    let t = lt-ltb 0 r.count (released-some r.first r.count c.in-Some.place v) in
+    let t = lt-ltb 0 r.count (released_some r.first r.count c.in-Some.place v) in
     let f : c.release.new.self.first ≡ wrapped r.places (r.first + 1) = c.release.ensures.first ∙ rw t in
     let d = c.index-self-place.result in
     record {
       value = takes o.entries r.places r.first r.count c.in-Some.place d long r.inside r.filled v;
       after = ap (λ i. ring_of o.entries i c.release.new.self.count) f
           ∙ ap (ring_of o.entries (wrapped r.places (r.first + 1))) c.release.ensures.count
-          ∙ takes-rest o.entries r.places r.first r.count c.in-Some.place d long r.inside r.filled v;
+          ∙ takes_rest o.entries r.places r.first r.count c.in-Some.place d long r.inside r.filled v;
       left = ap (λ n. n - c.release.new.self.count) c.release.ensures.places
           ∙ ap (λ n. r.places - n) c.release.ensures.count
-          ∙ takes-room o.entries r.places r.first r.count c.in-Some.place d long r.inside r.filled v;
+          ∙ takes_room o.entries r.places r.first r.count c.in-Some.place d long r.inside r.filled v;
       stands = refl;
     }

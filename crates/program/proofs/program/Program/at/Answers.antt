@@ -5,7 +5,7 @@ use Rattle.formats.specs.declared.instruction.Instruction.{Instruction}
 use Rattle.formats.specs.declared.instruction.Instruction.TheVariants.{Halt}
 use Rattle.program.specs.Accepted.{target_inside, ends}
 use Rattle.program.specs.Programs.{instructions_of}
-use Rattle.program.proofs.Programs.{front_item, jumps-below, goes_on}
+use Rattle.program.proofs.Programs.{front_item, jumps_below, goes_on}
 use Rattle.program.proofs.program.Program.at.Goals as goal
 
 pub returns-then-pc-self : goal.returns-then-pc-self
@@ -14,7 +14,7 @@ returns-then-pc-self c =
     let here = front_item p.instructions p.count c.args.pc c.index-self-pc.result (omega (arith, p.sized, p.few)) c.if-pc-self.true in
     record {
       value = here;
-      targets = ap (target_inside 512) here ∙ jumps-below p.instructions p.count p.few p.sized c.args.pc p.targets;
+      targets = ap (target_inside 512) here ∙ jumps_below p.instructions p.count p.few p.sized c.args.pc p.targets;
       onward = λ on. goes_on p.instructions p.count p.few p.sized c.args.pc p.some p.last (sym (ap ends here) ∙ on);
     }
 
