@@ -12,13 +12,13 @@ returns-in-Ok g c =
     let e = desk_engine g.M.Memory g.O.Outlet c.args.desk.now in
     let after = c.tags.new.list in
     let count = c.in-Ok.count in
-    let zeros : c.as_mut_slice.result.now ≡ replicate c.args.places 0 = c.as_mut_slice.ensures.value ∙ c.in_ok-list.ensures.items-if-clones-equal (λ y is. is) in
+    let zeros : c.as_mut_slice.result.now ≡ replicate c.args.places 0 = c.as_mut_slice.ensures.value ∙ c.in_ok-list.ensures.items_if_clones_equal (λ y is. is) in
     let long : length after ≡ c.in_ok-list.list.len = omega arith in
     let first = c.truncate.ensures.items ∙ ap (take count) (with_items_is c.in_ok-list.list after long) in
-    let told = c.in_ok-addresses.ensures ∙ ap spaced_text (c.as_slice.ensures.value ∙ first) in
+    let told = c.in_ok-addresses-in-Ok.ensures ∙ ap spaced_text (c.as_slice.ensures.value ∙ first) in
     let Allowed : List ℕ → Type 0 = λ l. Tags e c.args.core l after c.tags.result in
     IfOk-weaker c.format.result
-    (λ s. string_bytes s ≡ decimal count ++ (codes ":" ++ string_bytes c.in_ok-addresses.addresses))
+    (λ s. string_bytes s ≡ decimal count ++ (codes ":" ++ string_bytes c.in_ok-addresses-in-Ok.addresses))
     (λ s. TagsTold e c.args.core c.args.places (string_bytes s))
     (λ s is. record {
       list = after;

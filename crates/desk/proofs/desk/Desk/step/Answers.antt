@@ -8,4 +8,4 @@ use Rattle.desk.proofs.desk.Desk.step.Goals as goal
 pub invariant_of-self : goal.invariant_of-self
 invariant_of-self g c =
     let d = c.args.self.now in
-    (d.held ∙ sym (ap (λ (e : Engine). host_has e.token) c.step.ensures.after ∙ step_same (desk_engine g.M.Memory g.O.Outlet d) _), tt)
+    record { held = d.held ∙ sym (ap (λ (e : Engine). host_has e.token) c.step.ensures.after ∙ step_same (desk_engine g.M.Memory g.O.Outlet d) _) }

@@ -8,4 +8,4 @@ use Rattle.desk.proofs.desk.Desk.turn.Goals as goal
 pub invariant_of-self : goal.invariant_of-self
 invariant_of-self g c =
     let d = c.args.self.now in
-    (d.held ∙ sym (ap (λ (e : Engine). host_has e.token) c.turn.ensures.after ∙ turn_same (desk_engine g.M.Memory g.O.Outlet d)), tt)
+    record { held = d.held ∙ sym (ap (λ (e : Engine). host_has e.token) c.turn.ensures.after ∙ turn_same (desk_engine g.M.Memory g.O.Outlet d)) }

@@ -13,7 +13,9 @@ few bs = simp length-take (omega arith)
 
 pub invariant_of-result-2 : goal.invariant_of-result-2
 unfolding found
-invariant_of-result-2 c = let h = few c.args.bytes.now in (omega (arith, c.pairs-count.ensures.count), (omega (arith, c.pairs-count.auto.list), tt))
+invariant_of-result-2 c =
+    let h = few c.args.bytes.now in
+    record { few = omega (arith, c.pairs-count.ensures.count); sized = omega (arith, c.pairs-count.auto.list) }
 
 pub returns : goal.returns
 unfolding found
