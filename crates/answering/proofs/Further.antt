@@ -1,10 +1,10 @@
 -- One move more.
 -- Assumes nothing.
-use Rattle.std.proofs.Common.{◌≡◌, ℕ, suc, true, false, is_err, Ok, Err, Result, sym, ap, ◌∙◌, arith}
+use Rattle.std.proofs.Common.{◌≡◌, ℕ, suc, true, false, is_err, Ok, Err, Result, sym, arith}
 use Rattle.answers.specs.declared.answer.Answer.{Answer}
 use Rattle.model.specs.declared.refusal.StepRefusal.{StepRefusal}
 use Rattle.model.specs.Engine.{Engine}
-use Rattle.model.specs.Calls.{After, stays}
+use Rattle.model.specs.Calls.{stays}
 use Rattle.commands.specs.declared.machine.Move.{Move}
 use Rattle.answering.specs.declared.moves.Moved.{Moved}
 use Rattle.answering.specs.Repeated.{moved, called, unless_refused, further_moves}

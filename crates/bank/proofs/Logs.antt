@@ -1,7 +1,7 @@
 -- The entries of the record, one more and one by its place.
 -- Assumes nothing.
-use Rattle.std.proofs.Common.{◌≡◌, ℕ, zero, suc, ◌+◌, ◌<◌, ◌≤◌, List, [], ◌∷◌, ◌++◌, map, length, get_or, take, set, Some, Ok, Err, sym, refl, ap, ◌∙◌, le_of_suc-le-suc, add-one, arith, length-take-le, get_or-take, take-suc-set, le-ltb, lt-ltb}
-use Rattle.std.proofs.lemmas.List.{length-map, map-append, get_or_default}
+use Rattle.std.proofs.Common.{◌≡◌, ℕ, zero, suc, ◌+◌, ◌<◌, ◌≤◌, List, [], ◌∷◌, map, length, get_or, take, set, Some, Ok, Err, sym, refl, ap, ◌∙◌, le_of_suc-le-suc, add-one, arith, length-take-le, get_or-take, take-suc-set, le-ltb, lt-ltb}
+use Rattle.std.proofs.lemmas.List.{length-map, map-append}
 use Rattle.formats.specs.declared.entry.RecordEntry.{RecordEntry}
 use Rattle.model.specs.declared.refusal.RecordRefusal.TheVariants.{NotFilled}
 use Rattle.model.specs.Calls.{entry_in}

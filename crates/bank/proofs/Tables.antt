@@ -1,6 +1,6 @@
 -- Telling the other cores of a write, one core after the other.
 -- Assumes nothing.
-use Rattle.std.proofs.Common.{◌≡◌, ℕ, zero, suc, ◌+◌, ◌<◌, ◌≤◌, true, false, ◌&&◌, ltb, leb, List, [], ◌∷◌, ◌++◌, map, length, get_or, take, drop, set, sym, refl, ap, ◌∙◌, append_assoc, append-nil, le_of_suc-le-suc, arith, length-set, length-take-le, take_all, le-ltb, lt-ltb, le-leb}
+use Rattle.std.proofs.Common.{◌≡◌, ℕ, zero, suc, ◌+◌, ◌<◌, ◌≤◌, true, false, ltb, leb, List, [], ◌∷◌, ◌++◌, map, length, get_or, take, drop, set, sym, refl, ap, ◌∙◌, append_assoc, append-nil, le_of_suc-le-suc, arith, length-set, length-take-le, take_all, le-ltb, lt-ltb, le-leb}
 use lib.Seq.{map-set, set_at, get_or_at}
 use Rattle.std.proofs.lemmas.List.{length-map, take_more, take_more_set, drop_more, drop_all, get_or-map, map_push, take-map}
 use Rattle.std.proofs.lemmas.Bool.{and_from, and_parts, and_left, and_right}

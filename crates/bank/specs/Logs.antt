@@ -1,6 +1,6 @@
 -- The record as the list of its entries.
 -- Assumes nothing.
-use Rattle.std.specs.Prelude.{ℕ, cond, List, [], ◌∷◌, ◌++◌, map, length, take, Some, None, Ok, Err, Option, Result, nat_lt}
+use Rattle.std.specs.Prelude.{cond, List, ◌++◌, map, length, take, Ok, Err, Option, Result, nat_lt}
 use Rattle.formats.specs.declared.entry.RecordEntry.{RecordEntry}
 use Rattle.model.specs.declared.refusal.RecordRefusal.{RecordRefusal}
 use Rattle.model.specs.OneAtATime.{Turn}

@@ -1,6 +1,6 @@
 -- A step neither gives the token to the host nor takes it from the host.
 -- Assumes nothing.
-use Rattle.std.proofs.Common.{◌≡◌, ℕ, ◌+◌, Bool, true, false, cond, eqb, ltb, leb, length, Ok, Err, Result, refl, ◌∙◌}
+use Rattle.std.proofs.Common.{◌≡◌, ℕ, ◌+◌, Bool, false, cond, eqb, ltb, leb, length, Ok, Err, Result, refl}
 use Rattle.std.proofs.lemmas.Bool.{cond_both}
 use Rattle.answers.specs.declared.answer.Answer.{Answer}
 use Rattle.model.specs.declared.state.State.{State}
@@ -14,7 +14,7 @@ use Rattle.model.specs.Instructions.{Inner, InnerFaults, InnerMoves, InnerLoads,
 use Rattle.model.specs.Lines.{holds, any_dirty, left}
 use Rattle.model.specs.Cores.{Core, View, Outcome, if_free, freed, early, step_by_state, in_bypass, in_transaction, in_early_commit, inner_of}
 use Rattle.model.specs.Engine.{Engine, core_at, view_of}
-use Rattle.model.specs.Calls.{After, stays, outcome_of, stepped, step, wanted, advanced, turn}
+use Rattle.model.specs.Calls.{After, stays, stepped, step, wanted, advanced, turn}
 use Rattle.engine.specs.Engines.{host_has}
 
 -- an outcome leaves the token with the host, or elsewhere, as it was

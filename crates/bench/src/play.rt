@@ -8,15 +8,15 @@ ghost use Rattle.engine.specs.Engines.{outlet_of, engine_of, settings_of, host_h
 ghost use Rattle.wire.specs.Calls.{call_of};
 ghost use Rattle.bench.specs.Playing.{answered, after, calls_in, words_played, answers_left};
 
-use wire::call::decode;
 use crate::desk::perform;
-use wire::reply::{fault_bytes, reply_bytes};
 use engine::engine::Engine;
 use engine::pass::Pass;
 use engine::play::Session;
 use memory::shared::Memory;
 use outlet::waiting::Outlet;
 use program::program::Program;
+use wire::call::decode;
+use wire::reply::{fault_bytes, reply_bytes};
 
 // The word of the four bytes from `at` on.
 fn word_from(bytes: &[u8], at: usize) -> u32

@@ -1,3 +1,5 @@
+#![tactic(auto)]
+
 // Runs over byte slices.
 #[cfg(test)]
 mod trials;

@@ -1,4 +1,6 @@
 // What it means to be packed, and the packed forms of instructions, record entries and outlet entries.
+#![tactic(auto)]
+
 pub mod instruction;
 mod low;
 pub mod packed;

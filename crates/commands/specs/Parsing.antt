@@ -18,7 +18,7 @@ use Rattle.commands.specs.declared.reason.Reason.TheVariants.{UnknownCommand, No
 use Rattle.buffers.specs.Buffers.{MemorySaid, words, bytes, OutletSaid, store, over}
 use Rattle.commands.specs.Names.{kind_of, packed_name_of, engine_name_of}
 use Rattle.commands.specs.Said.{PackedSaid, program, listing, one, image, SettingsSaid, Said, packed, memory, outlet, make, engine}
-use Rattle.commands.specs.Words.{words_of, first, others, then, word_of, number_of, bytes_of, numbers_of, ended, last_number_of, last_times_of}
+use Rattle.commands.specs.Words.{words_of, others, then, word_of, number_of, bytes_of, numbers_of, ended, last_number_of, last_times_of}
 
 -- numbers as bytes, four each, most significant first
 abbrev pub spread : List ℕ → List ℕ

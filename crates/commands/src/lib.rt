@@ -1,4 +1,6 @@
 // A line of a scenario as a command.
+#![tactic(auto)]
+
 pub mod command;
 pub mod kind;
 pub mod machine;

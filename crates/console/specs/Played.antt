@@ -5,7 +5,6 @@ use Rattle.std.specs.Option.{option_map, unwrap_or}
 use Rattle.program.specs.declared.program.Program.{Program}
 use Rattle.program.specs.Programs.{instructions_of}
 use Rattle.buffers.specs.declared.buffers.MemoryBuffer.{MemoryBuffer}
-use Rattle.buffers.specs.declared.buffers.OutletBuffer.{OutletBuffer}
 use Rattle.buffers.specs.declared.buffers.OutletBuffer.TheVariants.{Store}
 use Rattle.commands.specs.declared.command.Command.{Command}
 use Rattle.commands.specs.declared.command.Command.TheVariants.{Packed, Memory, Outlet, Make as MakeOne, Engine as ToEngine}

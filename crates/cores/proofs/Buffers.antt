@@ -1,15 +1,14 @@
 -- What a line that was found tells of the lines, and lines that stay at different addresses.
 -- Assumes nothing.
-use Rattle.std.proofs.Common.{◌≡◌, ℕ, zero, suc, ◌+◌, ◌<◌, ◌≤◌, Bool, true, false, cond, not, ◌&&◌, ◌||◌, eqb, List, [], ◌∷◌, ◌++◌, length, get_or, take, set, is_some, Some, None, Option, sym, refl, ap, ◌∙◌, subst, inl, inr, arith}
-use Rattle.std.proofs.lemmas.Bool.{cases_Bool, cond-false, eqb-true, eq-eqb, and_parts, and_from, or_parts, or_from, not-true, not_from_false}
-use Rattle.std.proofs.lemmas.List.{get_or-take, get_or_past, length-take-le, length-set, set_past, take_more_set}
+use Rattle.std.proofs.Common.{◌≡◌, ℕ, zero, suc, ◌+◌, ◌<◌, ◌≤◌, Bool, true, false, not, ◌||◌, eqb, List, [], ◌∷◌, ◌++◌, length, take, set, is_some, Some, None, Option, sym, refl, ap, ◌∙◌, inl, inr, arith}
+use Rattle.std.proofs.lemmas.Bool.{cases_Bool, cond-false, eqb-true, and_parts, and_from, or_parts, not-true, not_from_false}
+use Rattle.std.proofs.lemmas.List.{get_or-take, get_or_past, length-take-le, set_past, take_more_set}
 use Rattle.std.proofs.lemmas.Bool.Decides.{nat_tests}
 use Rattle.model.specs.declared.place.Line.{Line}
-use Rattle.model.specs.declared.effect.Effect.{Effect}
-use Rattle.model.specs.declared.effect.Effect.TheVariants.{Nothing, Wrote, Sent}
+use Rattle.model.specs.declared.effect.Effect.TheVariants.{Nothing, Wrote}
 use Rattle.model.specs.Lines.{holds, value_at, tagged, restored, store_at, any_dirty, cleaned, wrote, left}
 use Rattle.cores.specs.Distinct.{distinct}
-use Rattle.cores.specs.Buffers.{later, first_index, index_of, dirty_index, no_line, line_at}
+use Rattle.cores.specs.Buffers.{later, index_of, dirty_index, no_line, line_at}
 
 later_some : (o : Option ℕ) (i : ℕ) → later o ≡ Some i → (j : ℕ) × (o ≡ Some j) × (i ≡ suc j)
 later_some None i h = let z : ◌≡◌ {A = ℕ} 0 1 = cc in absurd (omega arith)

@@ -1,6 +1,6 @@
 -- Finding the first line that passes a test, and what stands there.
 -- Assumes nothing.
-use Rattle.std.proofs.Common.{◌≡◌, ℕ, zero, suc, ◌<◌, ◌≤◌, Bool, true, false, cond, List, [], ◌∷◌, length, get_or, take, Some, None, Option, sym, refl, ap, ◌∙◌, le_of_suc-le-suc, arith, length-take-le, get_or-take}
+use Rattle.std.proofs.Common.{◌≡◌, ℕ, zero, suc, ◌<◌, ◌≤◌, Bool, true, false, List, [], ◌∷◌, length, get_or, take, Some, None, refl, ap, ◌∙◌, le_of_suc-le-suc, arith, length-take-le, get_or-take}
 use Rattle.std.proofs.lemmas.List.{get_or_default}
 use Rattle.model.specs.declared.place.Line.{Line}
 use Rattle.cores.specs.Buffers.{no_line, later, first_index}

@@ -1,6 +1,6 @@
 -- Steps that load or store: what the code does is what the model says, once the line or the word is known.
 -- Assumes nothing.
-use Rattle.std.proofs.Common.{◌≡◌, ℕ, ◌<◌, Bool, true, false, cond, List, [], get_or, set, replicate, Some, None, sym, refl, ap, ◌∙◌}
+use Rattle.std.proofs.Common.{◌≡◌, ℕ, ◌<◌, List, set, Some, None, sym, refl, ap, ◌∙◌}
 use Rattle.std.proofs.lemmas.List.{get_or-replicate, length-replicate}
 use Rattle.answers.specs.declared.answer.Answer.TheVariants.{Running}
 use Rattle.formats.specs.declared.register.Register.{Register}

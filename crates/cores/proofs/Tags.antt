@@ -1,13 +1,12 @@
 -- Copying the tagged addresses of lines, one line more.
 -- Assumes nothing.
-use Rattle.std.proofs.Common.{◌≡◌, ℕ, zero, suc, ◌+◌, ◌<◌, ◌≤◌, Bool, true, false, cond, not, ◌&&◌, ◌||◌, eqb, leb, List, [], ◌∷◌, ◌++◌, length, get_or, take, drop, set, Ok, Err, Result, sym, refl, ap, ◌∙◌, subst, inl, inr, le_of_suc-le-suc, add-one, arith, length-set}
+use Rattle.std.proofs.Common.{◌≡◌, ℕ, zero, suc, ◌+◌, ◌<◌, ◌≤◌, true, false, cond, not, eqb, List, [], ◌∷◌, ◌++◌, length, take, drop, set, Ok, Err, sym, refl, ap, ◌∙◌, inl, inr, arith, length-set}
 use Rattle.std.proofs.lemmas.List.{take_more, take_more_set, drop-set-lt, drop-drop}
-use Rattle.std.proofs.lemmas.Bool.{cases_Bool, eqb-true, eq-eqb, and_parts, or_parts, not-true, le-leb, lt-leb}
+use Rattle.std.proofs.lemmas.Bool.{cases_Bool, eqb-true, and_parts, not-true, le-leb, lt-leb}
 use Rattle.model.specs.declared.place.Line.{Line}
-use Rattle.model.specs.declared.refusal.TagsRefusal.{TagsRefusal}
 use Rattle.model.specs.declared.refusal.TagsRefusal.TheVariants.{TooShort}
 use Rattle.model.specs.Lines.{holds, tagged}
-use Rattle.model.specs.Calls.{tag_count, times, TagsCopied}
+use Rattle.model.specs.Calls.{tag_count, times}
 use Rattle.cores.specs.Distinct.{distinct}
 use Rattle.cores.specs.Buffers.{no_line, line_at, tags_of}
 use Rattle.cores.specs.Tags.{LineTags}

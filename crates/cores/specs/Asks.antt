@@ -2,8 +2,7 @@
 --   ask_of    an Ask of the code as the model's, at a place
 --   Onward   where an Ask leads stays inside a program of 512 instructions
 -- Assumes nothing.
-use Rattle.std.specs.Prelude.{ℕ, ◌<◌, ◌≤◌}
-use Rattle.formats.specs.declared.register.Register.{Register}
+use Rattle.std.specs.Prelude.{◌<◌, ◌≤◌}
 use Rattle.model.specs.declared.place.Place.{Place}
 use Rattle.model.specs.Instructions.{put_reg, Ask as ModelAsk, Moves as AskMoves, Loads as AskLoads, Stores as AskStores, Sends as AskSends}
 use Rattle.model.specs.Instructions.{Begins as AskBegins, Ends as AskEnds, Halts as AskHalts, Retries as AskRetries, Earlies as AskEarlies}

@@ -12,8 +12,8 @@ use Rattle.model.specs.declared.state.Token.TheVariants.{Free, Core as CoreHas, 
 use Rattle.model.specs.Instructions.{Outer, OuterFaults, OuterMoves, OuterLoads, OuterStores, OuterSends, Opens, Stops, outer_at}
 use Rattle.model.specs.Instructions.{Inner, InnerFaults, InnerMoves, InnerLoads, InnerStores, InnerSends, Closes, Restarts, TakesToken}
 use Rattle.model.specs.Lines.{holds, any_dirty, left}
-use Rattle.model.specs.Cores.{Core, View, Outcome, outcome, if_free, freed, early, step_by_state, in_bypass, in_transaction, in_early_commit, inner_of}
-use Rattle.model.specs.Engine.{Engine, core_at, view_of}
+use Rattle.model.specs.Cores.{Core, View, Outcome, if_free, freed, early, step_by_state, in_bypass, in_transaction, in_early_commit, inner_of}
+use Rattle.model.specs.Engine.{Engine, core_at}
 use Rattle.model.specs.Calls.{After, stays, stepped, step, wanted, advanced, turn}
 use Rattle.engine.specs.Engines.{host_has}
 

@@ -1,6 +1,6 @@
 -- Bytes as hexadecimal text.
 -- Assumes nothing.
-use Rattle.std.proofs.Common.{◌≡◌, ℕ, ◌/◌, ◌%◌, List, [], ◌∷◌, ◌++◌, get_or, refl, ap, ◌∙◌}
+use Rattle.std.proofs.Common.{◌≡◌, ℕ, ◌/◌, ◌%◌, List, [], ◌∷◌, ◌++◌, get_or, ap, ◌∙◌}
 use native.Mathlib.Nat.{div-div-eq-div-mul}
 use Rattle.formats.specs.Bytes.{bytes_of}
 use Rattle.digits.specs.Digits.{hex_byte, hex_text}

@@ -1,3 +1,5 @@
 // Hexadecimal digits, and refusals by their number.
+#![tactic(auto)]
+
 pub mod hex;
 pub mod refused;

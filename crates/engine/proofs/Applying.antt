@@ -1,9 +1,9 @@
 -- One core moves and the rest takes what it came to: that is the one way in which a step changes an engine.
 -- Assumes nothing.
-use Rattle.std.proofs.Common.{◌≡◌, ℕ, zero, suc, ◌-◌, ◌<◌, ◌≤◌, true, false, cond, ltb, List, [], ◌∷◌, ◌++◌, map, length, set, sym, refl, ap, ◌∙◌, subst, le_of_suc-le-suc, arith, ltb-false, lt-ltb}
+use Rattle.std.proofs.Common.{◌≡◌, ℕ, zero, suc, ◌-◌, ◌<◌, ◌≤◌, ltb, List, [], ◌∷◌, ◌++◌, map, length, set, refl, ap, ◌∙◌, le_of_suc-le-suc, arith, ltb-false, lt-ltb}
 use Rattle.std.proofs.lemmas.Bool.{cond_both}
 use Rattle.memory.specs.Shared.{written}
-use Rattle.outlet.specs.Waiting.{sent, room_sent}
+use Rattle.outlet.specs.Waiting.{sent}
 use Rattle.model.specs.declared.effect.Effect.{Effect}
 use Rattle.model.specs.declared.effect.Effect.TheVariants.{Nothing, Wrote, Sent}
 use Rattle.model.specs.Cores.{Core, Outcome as ModelOutcome}
@@ -12,7 +12,7 @@ use Rattle.cores.specs.declared.scene.Outcome.{Outcome}
 use Rattle.cores.specs.Units.{entries_of}
 use Rattle.bank.specs.Logs.{recorded}
 use Rattle.bank.proofs.Tables.{told_after}
-use Rattle.engine.specs.Steps.{with_core, Moved, memory_applied, outlet_applied, cores_applied, applied}
+use Rattle.engine.specs.Steps.{Moved, memory_applied, outlet_applied, cores_applied, applied}
 use Rattle.engine.proofs.Rooms.{Roomy}
 
 set_past : (m : List ℕ) (a w : ℕ) → length m ≤ a → m ≡ set m a w

@@ -8,7 +8,7 @@ use Rattle.answers.specs.declared.refusal.OutsideMemory.{OutsideMemory}
 use Rattle.memory.specs.Shared.{word_at}
 use Rattle.formats.specs.declared.instruction.Instruction.{Instruction}
 use Rattle.model.specs.declared.state.Token.{Token}
-use Rattle.model.specs.Cores.{Core as ModelCore, View}
+use Rattle.model.specs.Cores.{View}
 use Rattle.model.specs.Engine.{blank}
 use Rattle.cores.specs.declared.unit.Core.{Core}
 use Rattle.cores.specs.Units.{core_of}

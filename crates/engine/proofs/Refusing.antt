@@ -1,6 +1,6 @@
 -- When a step is refused, and what it is where it is not.
 -- Assumes nothing.
-use Rattle.std.proofs.Common.{◌≡◌, ℕ, ◌+◌, ◌<◌, ◌≤◌, List, map, length, take, Some, None, Ok, Err, Result, refl, ◌∙◌, length-take-le, le-ltb, lt-ltb, le-leb}
+use Rattle.std.proofs.Common.{◌≡◌, ℕ, ◌+◌, ◌<◌, ◌≤◌, List, map, length, take, Some, None, Err, Result, refl, ◌∙◌, length-take-le, le-ltb, lt-ltb, le-leb}
 use borrow.Author.Tests.{lt-leb}
 use Rattle.std.proofs.lemmas.List.{length-map}
 use Rattle.model.specs.declared.refusal.StepRefusal.TheVariants.{NoSuchCore, RecordFull}

@@ -1,6 +1,6 @@
 -- A step sends only where the outlet has room.
 -- Assumes nothing.
-use Rattle.std.proofs.Common.{◌≡◌, ℕ, ◌<◌, Bool, true, false, cond, ltb, List, [], ◌∷◌, length, get_or, ltb-true}
+use Rattle.std.proofs.Common.{◌≡◌, ℕ, ◌<◌, Bool, true, cond, ltb, List, [], ◌∷◌, length, ltb-true}
 use Rattle.std.proofs.lemmas.Bool.{cond_both}
 use Rattle.model.specs.declared.state.State.{State}
 use Rattle.model.specs.declared.state.State.TheVariants.{Bypass, Transaction, Commit, Abort, EarlyFlush, EarlyCommit, Stopped}
@@ -12,7 +12,7 @@ use Rattle.model.specs.declared.place.Line.{Line}
 use Rattle.model.specs.Instructions.{Outer, OuterFaults, OuterMoves, OuterLoads, OuterStores, OuterSends, Opens, Stops, outer_at}
 use Rattle.model.specs.Instructions.{Inner, InnerFaults, InnerMoves, InnerLoads, InnerStores, InnerSends, Closes, Restarts, TakesToken}
 use Rattle.model.specs.Lines.{wrote, holds, any_dirty, left}
-use Rattle.model.specs.Cores.{Core, View, Outcome, if_free, in_bypass, in_transaction, in_commit, in_early_flush, in_early_commit, inner_of, step_by_state, outcome}
+use Rattle.model.specs.Cores.{Core, View, Outcome, if_free, in_bypass, in_transaction, in_early_commit, inner_of, step_by_state, outcome}
 
 -- an effect that sends has room
 abbrev pub Roomy : ℕ → Effect → Type 0

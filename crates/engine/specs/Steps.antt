@@ -3,7 +3,6 @@
 --   applied    the engine once it has taken the effect, the token and the entry
 -- Assumes nothing.
 use Rattle.std.specs.Prelude.{◌≡◌, ℕ, List, length, replicate, slice_index, slice_set}
-use Rattle.answers.specs.declared.answer.Answer.{Answer}
 use Rattle.memory.specs.Shared.{written}
 use Rattle.outlet.specs.Waiting.{sent, room_sent}
 use Rattle.model.specs.declared.effect.Effect.{Effect}

@@ -6,7 +6,7 @@ use borrow.Author.Tests.{clash}
 use Rattle.std.proofs.lemmas.Nat.{mod_below}
 use Rattle.std.proofs.lemmas.Bool.{cases_Bool, and_parts}
 use Rattle.answers.specs.declared.refusal.InstructionFault.{InstructionFault}
-use Rattle.answers.specs.declared.refusal.InstructionFault.TheVariants.{UnknownOpcode, BadField}
+use Rattle.answers.specs.declared.refusal.InstructionFault.TheVariants.{UnknownOpcode}
 use Rattle.formats.specs.declared.below.Below.{Below}
 use Rattle.formats.specs.declared.register.Register.{Register}
 use Rattle.formats.specs.declared.register.Register.TheVariants.{R0, R1, R2, R3, R4, R5, R6, R7}

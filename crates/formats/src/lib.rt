@@ -1,4 +1,6 @@
 // Instructions, record entries and outlet entries: no value of these types has a field out of range.
+#![tactic(auto)]
+
 pub mod below;
 pub mod entry;
 pub mod instruction;

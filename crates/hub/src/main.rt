@@ -1,4 +1,6 @@
 // The console: plays scenarios from standard input, or from the files named as arguments.
+#![tactic(auto)]
+
 mod scenario;
 
 use crate::scenario::Scenario;

@@ -1,5 +1,7 @@
 // The three laws of the machine, each a theorem over every settings, memory, outlet and list of calls.
 // The functions do nothing: what they promise is the theorem.
+#![tactic(auto)]
+
 ghost use Rattle.model.specs.Laws.{Serial, RollBack, HeldRead, Observed, Played, TagsServed, Laws};
 
 // Whenever no core has the token, the record, run one turn at a time from the last clearing, explains memory, cores and sent words.

@@ -1,7 +1,7 @@
 -- What a memory that is the same beside its words tells of its buffer.
 use Rattle.std.proofs.Common.{◌≡◌, ℕ, List}
 use base.Fml.{GName}
-use Rattle.memory.specs.Beside.{Beside, over, both}
+use Rattle.memory.specs.Beside.{over}
 
 -- it is the same buffer
 pub same_buffer : {g h : GName} {s t : List ℕ} → over g s ≡ over h t → g ≡ h

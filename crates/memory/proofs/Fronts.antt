@@ -1,5 +1,5 @@
 -- A memory that is the front of a list: its length, and what a read and a write of it answer and leave.
-use Rattle.std.proofs.Common.{◌≡◌, ℕ, ◌<◌, ◌≤◌, min, cond, ltb, List, length, get_or, take, drop, set, Ok, Err, sym, refl, ap, ◌∙◌, arith, length-take, get_or-take, drop-set-lt}
+use Rattle.std.proofs.Common.{◌≡◌, ℕ, ◌<◌, ◌≤◌, min, cond, ltb, List, length, get_or, take, drop, set, Ok, Err, sym, ◌∙◌, arith, length-take, get_or-take, drop-set-lt}
 use lib.Seq.{take-set-lt}
 use Rattle.std.proofs.lemmas.Bool.{lt-ltb, le-ltb}
 use Rattle.memory.specs.Shared.{word_at, write_answer, written}

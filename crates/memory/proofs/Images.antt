@@ -1,5 +1,5 @@
 -- A write to a memory over bytes: its words, what lies beside them, and all bytes.
-use Rattle.std.proofs.Common.{◌≡◌, ℕ, ◌+◌, ◌*◌, ◌<◌, ◌≤◌, ltb, List, length, take, drop, set, Ok, sym, refl, ap, ◌∙◌, arith, length-set}
+use Rattle.std.proofs.Common.{◌≡◌, ℕ, ◌*◌, ◌<◌, ◌≤◌, List, length, take, drop, Ok, sym, ap, ◌∙◌, arith, length-set}
 use Rattle.std.proofs.lemmas.Bool.{lt-ltb, le-ltb}
 use Rattle.memory.specs.Shared.{word_at, written}
 use Rattle.memory.specs.Bytes.{word_from, words_in, memory_in, bytes_of, pasted, bytes_written}

@@ -21,7 +21,6 @@ use Rattle.model.specs.declared.refusal.RecordRefusal.{RecordRefusal}
 use Rattle.model.specs.declared.refusal.RecordRefusal.TheVariants.{NotFilled}
 use Rattle.model.specs.declared.refusal.TagsRefusal.{TagsRefusal}
 use Rattle.model.specs.declared.refusal.TagsRefusal.TheVariants.{NoSuchCore as NoTags, TooShort}
-use Rattle.model.specs.declared.state.State.{State}
 use Rattle.model.specs.declared.state.Look.{Look}
 use Rattle.model.specs.declared.state.Token.{Token}
 use Rattle.model.specs.declared.state.Token.TheVariants.{Free, Core as CoreHas, Host}

@@ -7,7 +7,7 @@
 use Rattle.std.specs.Prelude.{◌≡◌, ℕ, Bool, true, false, cond, ◌&&◌, ◌||◌, List, [], ◌∷◌, ◌==◌}
 use Rattle.model.specs.declared.place.Line.{Line}
 use Rattle.model.specs.declared.effect.Effect.{Effect}
-use Rattle.model.specs.declared.effect.Effect.TheVariants.{Nothing, Wrote, Sent}
+use Rattle.model.specs.declared.effect.Effect.TheVariants.{Nothing, Wrote}
 
 -- is there a line at the address?
 abbrev pub holds : List Line → ℕ → Bool

@@ -1,9 +1,9 @@
 -- Sending into a ring of slots in bytes, and taking from it.
-use Rattle.std.proofs.Common.{◌≡◌, ℕ, ◌+◌, ◌-◌, ◌*◌, ◌/◌, ◌<◌, ◌≤◌, cond, ltb, List, length, get_or, Some, None, Option, sym, refl, ap, ◌∙◌, arith}
+use Rattle.std.proofs.Common.{◌≡◌, ℕ, ◌+◌, ◌-◌, ◌/◌, ◌<◌, ◌≤◌, cond, ltb, List, length, get_or, Some, None, sym, ap, ◌∙◌, arith}
 use Rattle.std.proofs.lemmas.Bool.{lt-ltb}
 use Rattle.formats.specs.declared.entry.SentEntry.{SentEntry}
 use base.Fml.{GName}
-use Rattle.outlet.specs.Beside.{Beside, over, beside_sent, beside_taken}
+use Rattle.outlet.specs.Beside.{over, beside_sent, beside_taken}
 use Rattle.formats.specs.Sents.{sent_bytes}
 use Rattle.packed.specs.List.{with_entry}
 use Rattle.outlet.specs.Bytes.{entry_in, entries_in, bytes_sent}

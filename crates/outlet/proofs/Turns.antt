@@ -1,10 +1,10 @@
 -- What a ring that claims a place, or releases its oldest, makes of the entries that wait in it.
-use Rattle.std.proofs.Common.{◌≡◌, ℕ, ◌+◌, ◌-◌, ◌<◌, ◌≤◌, cond, ltb, List, ◌∷◌, ◌++◌, length, get_or, set, Some, None, Ok, Err, Option, Result, sym, refl, ap, ◌∙◌, arith}
+use Rattle.std.proofs.Common.{◌≡◌, ℕ, ◌+◌, ◌-◌, ◌<◌, ◌≤◌, cond, ltb, List, ◌∷◌, length, get_or, set, Some, None, Ok, sym, ap, ◌∙◌, arith}
 use Rattle.std.proofs.lemmas.Bool.{lt-ltb}
 use Rattle.std.proofs.lemmas.Bool.Decides.{nat_tests}
 use Rattle.formats.specs.declared.entry.SentEntry.{SentEntry}
 use Rattle.outlet.specs.Ring.{wrapped, ring_of}
-use Rattle.outlet.specs.Waiting.{send_answer, sent, room_sent, take_answer, taken, room_taken}
+use Rattle.outlet.specs.Waiting.{send_answer, sent, take_answer, taken, room_taken}
 use Rattle.outlet.proofs.Rings.{ring_more, ring_less}
 
 -- a place that was claimed: there was one, behind the filled ones

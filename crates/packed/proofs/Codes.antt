@@ -1,6 +1,6 @@
 -- Up to eight bytes as one number.
 -- Assumes nothing.
-use Rattle.std.proofs.Common.{◌≡◌, ℕ, zero, suc, ◌+◌, ◌-◌, ◌*◌, ◌/◌, ◌%◌, ◌^◌, ◌<◌, ◌≤◌, List, [], ◌∷◌, ◌++◌, length, get_or, take, drop, sym, refl, ap, ◌∙◌, subst, lt_of_lt_of_le, arith, length-take-le}
+use Rattle.std.proofs.Common.{◌≡◌, ℕ, zero, suc, ◌+◌, ◌-◌, ◌*◌, ◌/◌, ◌%◌, ◌<◌, ◌≤◌, List, [], ◌∷◌, ◌++◌, length, get_or, take, drop, sym, ap, subst, lt_of_lt_of_le, arith, length-take-le}
 use native.Mathlib.Nat.{pow-le-pow_right, div-div-eq-div-mul, suc-sub-suc}
 use lib.Seq.{drop-append-le}
 use Rattle.std.proofs.lemmas.List.{drop_all, take_more}

@@ -1,13 +1,13 @@
 -- Where the bytes of an entry stand, and what it unpacks to.
 -- Assumes nothing.
-use Rattle.std.proofs.Common.{◌≡◌, ℕ, suc, ◌+◌, ◌-◌, ◌*◌, ◌/◌, ◌<◌, ◌≤◌, ltb, List, ◌++◌, length, take, drop, Ok, Err, Result, sym, refl, ap, ◌∙◌, subst, mul-le-mul_right, suc-mul, div-mul-le_self, arith, length-drop, length-take-le, drop-drop, le-ltb, lt-ltb}
+use Rattle.std.proofs.Common.{◌≡◌, ℕ, suc, ◌+◌, ◌-◌, ◌*◌, ◌/◌, ◌<◌, ◌≤◌, List, ◌++◌, length, take, drop, Ok, Err, Result, sym, ap, ◌∙◌, subst, mul-le-mul_right, suc-mul, div-mul-le_self, arith, length-drop, length-take-le, drop-drop, lt-ltb}
 use borrow.Rule.Slice.PartMut.{put_mid}
 use Rattle.answers.specs.declared.refusal.Placed.{Placed}
 use Rattle.answers.specs.declared.refusal.ListRefusal.TheVariants.{Entry}
 use Rattle.answers.specs.Refusals.{placed_fault}
 use Rattle.formats.specs.Bytes.{AllBytes, AreBytes, bytes_of, spelled}
 use Rattle.formats.proofs.Bytes.{bytes_again}
-use Rattle.packed.specs.List.{entry_count, entry_bytes, at_place, entry_at, with_entry}
+use Rattle.packed.specs.List.{entry_bytes, at_place, entry_at, with_entry}
 
 -- a whole entry ends inside the bytes
 pub entry_within : (n w i : ℕ) → i < n / w → i * w + w ≤ n

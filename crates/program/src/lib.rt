@@ -1,2 +1,4 @@
 // Programs: what an accepted one is, and reading one from bytes.
+#![tactic(auto)]
+
 pub mod program;

@@ -1,4 +1,6 @@
 // What the console tells: of entries, of programs and of an engine's answers.
+#![tactic(auto)]
+
 mod entries;
 pub mod line;
 pub mod packed;

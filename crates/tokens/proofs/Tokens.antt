@@ -1,11 +1,11 @@
 -- The next token of a text, and the digits of a number.
 -- Assumes nothing.
-use Rattle.std.proofs.Common.{◌≡◌, ℕ, ◌+◌, ◌-◌, ◌<◌, ◌≤◌, Bool, true, false, cond, not, eqb, List, [], ◌∷◌, length, get_or, take, drop, Some, None, Option, sym, refl, ap, ◌∙◌, subst, inl, inr, one-add, arith, length-drop, false-eqb}
+use Rattle.std.proofs.Common.{◌≡◌, ℕ, ◌+◌, ◌-◌, ◌<◌, Bool, true, false, not, eqb, List, [], ◌∷◌, length, get_or, take, drop, Some, None, sym, ap, ◌∙◌, inl, inr, one-add, arith, length-drop, false-eqb}
 use Rattle.std.proofs.lemmas.List.{take_rest}
 use Rattle.std.specs.List.{prefix_len}
 use Rattle.std.proofs.lemmas.Bool.{cases_Bool}
 use Rattle.tokens.specs.declared.stretch.Class.TheVariants.{Blank, Solid, Hexadecimal}
-use Rattle.tokens.specs.Lines.{in_class, from_token, cut, next_token}
+use Rattle.tokens.specs.Lines.{in_class, from_token, next_token}
 use Rattle.tokens.specs.Numbers.{read_digits, read_number}
 
 -- what is left of a text after its blanks

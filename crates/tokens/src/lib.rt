@@ -1,4 +1,6 @@
 // Reading the console's text: lines, tokens, numbers and bytes.
+#![tactic(auto)]
+
 pub mod bytes;
 mod digit;
 pub mod line;

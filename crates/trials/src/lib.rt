@@ -1,3 +1,5 @@
+#![tactic(auto)]
+
 // Tests at the edges of the formats, the packed list, the program reader, memory, outlet, and the console's text, commands and lines.
 #[cfg(test)]
 mod codecs;

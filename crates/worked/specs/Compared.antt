@@ -9,13 +9,13 @@ use Rattle.formats.specs.declared.register.Register.TheVariants.{R0, R1, R2, R3}
 use Rattle.formats.specs.declared.entry.SentEntry.{SentEntry}
 use Rattle.formats.specs.declared.entry.Mark.TheVariants.{Completed, Discarded, Kept}
 use Rattle.formats.specs.declared.instruction.Instruction.TheVariants.{Halt, Set, Add, Sub, Mean, Load, Store, Jump, Jz, Jlt, Begin, End, Retry, Early as EarlyToken, Out}
-use Rattle.answers.specs.declared.answer.Fault.TheVariants.{AddressOutside, NoOpenBlock, TooDeep, TooLong, HaltInBlock, RetryAfterEarly}
+use Rattle.answers.specs.declared.answer.Fault.TheVariants.{AddressOutside, NoOpenBlock, RetryAfterEarly}
 use Rattle.answers.specs.declared.answer.Answer.TheVariants.{Running, Waiting, Done, Committing, Early, Full, RolledBack, Retried, Faulted, Stopped}
 use Rattle.model.specs.declared.state.State.{State}
-use Rattle.model.specs.declared.state.State.TheVariants.{Bypass, Transaction, Commit, Abort, EarlyFlush, EarlyCommit, Stopped as IsStopped}
+use Rattle.model.specs.declared.state.State.TheVariants.{Bypass, Transaction, EarlyCommit, Stopped as IsStopped}
 use Rattle.model.specs.declared.state.Token.{Token}
 use Rattle.model.specs.declared.state.Token.TheVariants.{Free, Core as CoreHas, Host}
-use Rattle.model.specs.declared.refusal.StepRefusal.TheVariants.{NoSuchCore, RecordFull}
+use Rattle.model.specs.declared.refusal.StepRefusal.TheVariants.{NoSuchCore}
 use Rattle.model.specs.declared.refusal.ClearRefusal.TheVariants.{TokenTaken}
 use Rattle.model.specs.declared.refusal.HoldRefusal.TheVariants.{TokenTaken as NotForHost}
 use Rattle.model.specs.declared.refusal.ReadRefusal.TheVariants.{NotHeld, AddressOutside as ReadOutside}

@@ -1,7 +1,7 @@
 -- Worked examples of the formats: instructions, record entries and programs, by their numbers.
 --   Packed   all of them together
 -- Assumes nothing.
-use Rattle.std.specs.Prelude.{◌≡◌, ℕ, List, [], ◌∷◌, Ok, Err, Result}
+use Rattle.std.specs.Prelude.{◌≡◌, ℕ, [], ◌∷◌, Ok, Err, Result}
 use Rattle.answers.specs.Refusals.{instruction_number, program_refusal_number}
 use Rattle.formats.specs.declared.register.Register.TheVariants.{R0, R1, R2}
 use Rattle.formats.specs.declared.entry.Mark.TheVariants.{Kept}
@@ -9,7 +9,7 @@ use Rattle.formats.specs.declared.instruction.Instruction.TheVariants.{Set, Stor
 use Rattle.formats.specs.Belows.{immediate_of, channel_of, core_of, count_of}
 use Rattle.formats.specs.Bytes.{bytes_of}
 use Rattle.formats.specs.Instructions.{instruction_word, word_instruction}
-use Rattle.formats.specs.Records.{record_word, word_record}
+use Rattle.formats.specs.Records.{record_word}
 use Rattle.program.specs.Reading.{read_program}
 
 -- the number of a refusal, 0 where nothing is refused

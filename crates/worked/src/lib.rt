@@ -1,4 +1,6 @@
 // Worked examples of the formats and of the engine, and runs in which each law says something: theorems shown by computing the definitions.
+#![tactic(auto)]
+
 ghost use Rattle.worked.specs.Compared.{Compared};
 ghost use Rattle.worked.specs.Examples.{Worked};
 ghost use Rattle.worked.specs.Packed.{Packed};

@@ -1,8 +1,8 @@
-use Rattle.std.proofs.Common.{◌≡◌, ℕ, suc, ◌+◌, ◌-◌, true, false, Some, sym, ap, ◌∙◌, add-one, arith}
+use Rattle.std.proofs.Common.{◌≡◌, ℕ, suc, ◌+◌, ◌-◌, Some, sym, ap, ◌∙◌, add-one, arith}
 use Rattle.model.specs.Calls.{After, stays}
 use Rattle.desk.specs.Desks.{desk_engine}
 use Rattle.answering.specs.declared.moves.Moved.{Moved}
-use Rattle.answering.specs.Repeated.{further_moves, repeated}
+use Rattle.answering.specs.Repeated.{further_moves}
 use Rattle.answering.proofs.Further.{none_left, moved_on, moved_last}
 use Rattle.answering.proofs.moves.repeat.Goals as goal
 

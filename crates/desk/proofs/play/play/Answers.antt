@@ -1,6 +1,6 @@
 use Rattle.std.proofs.Common.{◌++◌, length, drop, sym, ap, ◌∙◌, arith}
 use Rattle.model.specs.declared.call.Call.TheVariants.{Step}
-use Rattle.model.specs.Engine.{Engine as ModelEngine, make}
+use Rattle.model.specs.Engine.{Engine as ModelEngine}
 use Rattle.model.specs.Runs.{plays, replies}
 use Rattle.laws.proofs.Laws.{lawful, is_played}
 use Rattle.engine.specs.Engines.{outlet_of, settings_of}

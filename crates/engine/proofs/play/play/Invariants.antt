@@ -1,5 +1,4 @@
-use Rattle.model.specs.Engine.{make}
-use Rattle.engine.specs.Engines.{outlet_of, engine_of, settings_of}
+use Rattle.engine.specs.Engines.{engine_of}
 use Rattle.engine.proofs.Playing.{Sofar}
 use Rattle.engine.proofs.play.play.Given as goal
 

@@ -1,4 +1,4 @@
-use Rattle.std.proofs.Common.{◌≡◌, ℕ, List, [], ◌∷◌, get_or, ap, ◌∙◌}
+use Rattle.std.proofs.Common.{ℕ, List, [], ◌∷◌, get_or, ap, ◌∙◌}
 use Rattle.formats.specs.Bytes.{bytes_of}
 use Rattle.formats.specs.Sents.{sent_code, sent_bytes}
 use Rattle.formats.proofs.Bytes.{bytes_sized, bytes_again}

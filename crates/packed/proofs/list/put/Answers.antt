@@ -1,6 +1,6 @@
 use Rattle.std.proofs.Common.{◌≡◌, ◌+◌, ◌-◌, ◌/◌, length, take, drop, ap, ◌∙◌, arith, length-drop, length-take-le, lt-ltb}
 use borrow.Rule.Slice.PartMut.{put_mid}
-use Rattle.formats.specs.Bytes.{bytes_of, spelled}
+use Rattle.formats.specs.Bytes.{bytes_of}
 use Rattle.packed.proofs.Entries.{packed_code, written}
 use Rattle.packed.proofs.list.put.Goals as goal
 

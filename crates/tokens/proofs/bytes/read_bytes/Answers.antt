@@ -1,4 +1,4 @@
-use Rattle.std.proofs.Common.{◌≡◌, ℕ, ◌+◌, ◌*◌, ◌<◌, true, ltb, [], ◌∷◌, ◌++◌, length, get_or, sym, ap, ◌∙◌, arith, rules, ltb-true}
+use Rattle.std.proofs.Common.{◌+◌, ◌*◌, ◌<◌, [], ◌∷◌, ◌++◌, get_or, sym, ◌∙◌, arith, ltb-true}
 use Rattle.std.specs.Char.{digit_value}
 use Rattle.std.proofs.lemmas.List.FromFn.{map-range_with_len_more}
 use Rattle.std.proofs.lemmas.Result.{err_from_is_err_and}

@@ -1,8 +1,3 @@
-use Rattle.std.proofs.Common.{◌≡◌, ℕ, ◌-◌, ◌<◌, length, take, drop, sym, ap, ◌∙◌, subst, arith, length-drop, false-eqb}
-use Rattle.std.specs.List.{prefix_len}
-use Rattle.std.proofs.lemmas.List.{take_rest}
-use Rattle.tokens.specs.declared.stretch.Class.TheVariants.{Blank, Solid}
-use Rattle.tokens.specs.Lines.{in_class, from_token}
 use Rattle.tokens.proofs.Tokens.{no_token, one_token, left, shorter}
 use Rattle.tokens.proofs.line.next_token.Goals as goal
 

@@ -1,4 +1,4 @@
-use Rattle.std.proofs.Common.{◌≡◌, ℕ, ◌+◌, ◌*◌, min, get_or, take, sym, ap, ◌∙◌, take_all}
+use Rattle.std.proofs.Common.{◌+◌, ◌*◌, min, get_or, take, sym, ap, ◌∙◌, take_all}
 use Rattle.std.specs.Str.Parse.{digits_value}
 use Rattle.std.specs.Char.{digit_value}
 use Rattle.std.proofs.lemmas.Int.Digits.{digits_value_more}

@@ -1,4 +1,4 @@
-use Rattle.std.proofs.Common.{◌≡◌, ℕ, List, ◌++◌, Some, vec_items, codes, decimal, sym, refl, ap, ◌∙◌, subst, append_assoc}
+use Rattle.std.proofs.Common.{ℕ, List, ◌++◌, Some, vec_items, codes, decimal, sym, refl, ap, ◌∙◌, subst, append_assoc}
 use Rattle.std.specs.Option.{option_map}
 use Rattle.program.specs.Programs.{instructions_of}
 use Rattle.commands.specs.declared.command.Command.{Command}

@@ -1,4 +1,4 @@
-use Rattle.std.proofs.Common.{◌≡◌, Some, None, Option, unwrap_or, sym, refl, ap, ◌∙◌, subst}
+use Rattle.std.proofs.Common.{◌≡◌, None, Option, unwrap_or, sym, refl, ap, ◌∙◌, subst}
 use Rattle.program.specs.declared.program.Program.{Program}
 use Rattle.buffers.specs.declared.buffers.MemoryBuffer.{MemoryBuffer}
 use Rattle.buffers.specs.declared.buffers.OutletBuffer.{OutletBuffer}

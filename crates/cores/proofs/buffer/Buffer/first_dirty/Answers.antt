@@ -1,4 +1,4 @@
-use Rattle.std.proofs.Common.{◌<◌, eqb, arith, eq-eqb}
+use Rattle.std.proofs.Common.{arith}
 use Rattle.cores.specs.Buffers.{no_line}
 use Rattle.cores.proofs.Searches.{front_here, front_none}
 use Rattle.cores.proofs.buffer.Buffer.first_dirty.Goals as goal

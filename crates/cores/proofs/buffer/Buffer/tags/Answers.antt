@@ -1,7 +1,5 @@
-use Rattle.std.proofs.Common.{◌≡◌, ℕ, ◌+◌, ◌<◌, ◌≤◌, List, length, take, sym, ◌∙◌, subst, arith}
-use Rattle.model.specs.Calls.{tag_count}
-use Rattle.cores.specs.Buffers.{lines_of}
-use Rattle.cores.proofs.Tags.{Copied, copied_none, copied_tagged, copied_plain, copied_all, place_left, count_few, too_short}
+use Rattle.std.proofs.Common.{◌≡◌, ℕ, ◌<◌, length, subst, arith}
+use Rattle.cores.proofs.Tags.{Copied, copied_none, copied_tagged, copied_plain, copied_all, place_left, count_few}
 use Rattle.cores.proofs.buffer.Buffer.tags.Goals as goal
 use Rattle.cores.proofs.buffer.Buffer.tags.Goals.{Then-line, then-line, else-line}
 

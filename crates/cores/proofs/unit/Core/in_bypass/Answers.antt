@@ -1,4 +1,4 @@
-use Rattle.std.proofs.Common.{◌≡◌, sym, ap, ◌∙◌, subst}
+use Rattle.std.proofs.Common.{sym, ap, ◌∙◌, subst}
 use Rattle.model.specs.declared.effect.Effect.TheVariants.{Nothing}
 use Rattle.model.specs.declared.place.Place.{Place}
 use Rattle.model.specs.declared.state.State.TheVariants.{Bypass}

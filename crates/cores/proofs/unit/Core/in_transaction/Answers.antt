@@ -1,4 +1,4 @@
-use Rattle.std.proofs.Common.{◌≡◌, sym, ap, ◌∙◌, subst}
+use Rattle.std.proofs.Common.{sym, ap, ◌∙◌, subst}
 use Rattle.model.specs.Cores.{in_transaction}
 use Rattle.cores.specs.declared.decide.Inner.{Inner}
 use Rattle.cores.specs.Decisions.{inner_of, OnwardInner}

@@ -1,4 +1,4 @@
-use Rattle.std.proofs.Common.{◌≡◌, List, sym, ap, ◌∙◌, subst, arith}
+use Rattle.std.proofs.Common.{List, sym, ap, ◌∙◌, arith}
 use Rattle.answers.specs.declared.answer.Answer.TheVariants.{Running}
 use Rattle.model.specs.declared.place.Line.{Line}
 use Rattle.model.specs.declared.place.Place.{Place}

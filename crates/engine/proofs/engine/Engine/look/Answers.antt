@@ -1,5 +1,4 @@
 use Rattle.std.proofs.Common.{Some, sym, ap, ◌∙◌, arith}
-use Rattle.model.specs.Cores.{Core as ModelCore}
 use Rattle.model.specs.Calls.{look_at}
 use Rattle.engine.specs.Engines.{engine_of}
 use Rattle.engine.proofs.Moving.{core_here}

@@ -1,10 +1,9 @@
-use Rattle.std.proofs.Common.{◌≡◌, ◌≤◌, List, map, length, get_or, take, set, sym, ap, ◌∙◌, arith}
+use Rattle.std.proofs.Common.{◌≡◌, ◌≤◌, List, length, get_or, set, sym, ap, ◌∙◌, arith}
 use Rattle.program.specs.Programs.{instructions_of}
 use Rattle.model.specs.Cores.{Core as ModelCore, Outcome as ModelOutcome, outcome}
 use Rattle.model.specs.Engine.{core_at}
 use Rattle.cores.specs.Units.{core_of, scene_view, outcome_of}
-use Rattle.engine.specs.Engines.{engine_of, outlet_of}
-use Rattle.engine.specs.Steps.{with_core}
+use Rattle.engine.specs.Engines.{engine_of}
 use Rattle.engine.proofs.Moving.{core_here, core_put}
 use Rattle.engine.proofs.engine.Engine.move_core.Goals as goal
 

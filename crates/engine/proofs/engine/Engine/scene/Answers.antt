@@ -1,5 +1,4 @@
-use Rattle.std.proofs.Common.{◌≡◌, ℕ, ◌≤◌, List, length, get_or, replicate, sym, ap, ◌∙◌, arith}
-use Rattle.program.specs.Programs.{instructions_of}
+use Rattle.std.proofs.Common.{◌≡◌, ℕ, ◌≤◌, length, get_or, sym, ap, ◌∙◌, arith}
 use Rattle.model.specs.Cores.{Core as ModelCore}
 use Rattle.model.specs.Engine.{core_at}
 use Rattle.cores.specs.Units.{core_of, load_address}

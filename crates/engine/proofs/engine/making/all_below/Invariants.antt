@@ -1,4 +1,4 @@
-use Rattle.std.proofs.Common.{◌≡◌, true, drop}
+use Rattle.std.proofs.Common.{◌≡◌, drop}
 use Rattle.model.specs.Engine.{all_below}
 use Rattle.engine.proofs.engine.making.all_below.Given as goal
 

@@ -1,5 +1,5 @@
-use Rattle.std.proofs.Common.{◌≡◌, ℕ, ◌+◌, ◌*◌, ◌<◌, ◌≤◌, List, length, drop, refl, ap, ◌∙◌, arith}
-use Rattle.memory.specs.Beside.{Beside, over}
+use Rattle.std.proofs.Common.{ℕ, ◌*◌, ◌<◌, ◌≤◌, List, length, drop, refl, ap, ◌∙◌, arith}
+use Rattle.memory.specs.Beside.{over}
 use Rattle.memory.specs.Bytes.{memory_in}
 use Rattle.memory.proofs.Fronts.{answers_inside, answers_outside, leaves_outside}
 use Rattle.memory.proofs.Quads.{quad_inside}

@@ -1,4 +1,4 @@
-use Rattle.std.proofs.Common.{◌<◌, ◌≤◌, length, refl, arith}
+use Rattle.std.proofs.Common.{◌<◌, length, refl, arith}
 use Rattle.memory.specs.Words.{memory_of}
 use Rattle.memory.proofs.Fronts.{below_bound, below_length, reads_front, reads_outside}
 use Rattle.memory.proofs.words.WordMemoryMemory.read.Goals as goal

@@ -1,9 +1,9 @@
-use Rattle.std.proofs.Common.{◌≡◌, ℕ, ◌-◌, ◌/◌, ◌<◌, ◌≤◌, Bool, true, length, take, Ok, Err, sym, refl, ap, ◌∙◌, subst, arith, length-take-le}
+use Rattle.std.proofs.Common.{◌≡◌, ℕ, ◌-◌, ◌/◌, ◌≤◌, true, length, take, Ok, Err, sym, refl, ap, ◌∙◌, subst, arith, length-take-le}
 use Rattle.std.proofs.lemmas.Result.{err_from_is_err_and}
 use Rattle.answers.specs.declared.refusal.ProgramFault.TheVariants.{NoEnd}
 use Rattle.program.specs.Accepted.{targets_inside, ends, last_of}
 use Rattle.program.specs.Programs.{as_list}
-use Rattle.program.specs.Reading.{read_from, read_program}
+use Rattle.program.specs.Reading.{read_from}
 use Rattle.program.proofs.Programs.{sofar_none, sofar_more, sofar_stop, sofar_all, last_item, read_refused, read_whole, read_endless, count_good}
 use Rattle.program.proofs.program.Program.read.Goals as goal
 use Rattle.program.proofs.program.Program.read.Goals.{After-may_end}
