@@ -7,8 +7,8 @@ use Rattle.commands.specs.declared.kind.Kind.{Kind}
 use Rattle.commands.specs.declared.kind.Kind.TheVariants.{Instruction, Entry, Sent}
 use Rattle.commands.specs.declared.machine.EngineName.{EngineName}
 use Rattle.commands.specs.declared.machine.EngineName.TheVariants.{Step, Turn, Steps, Turns, Hold, Give, Read, Take, Clear, Record, Tags, Core, Token}
-use Rattle.commands.specs.declared.packed.PackedName.{PackedName}
-use Rattle.commands.specs.declared.packed.PackedName.TheVariants.{Program, ProgramBytes, List as Listing, One, Image}
+use Rattle.commands.specs.declared.packed_command.PackedName.{PackedName}
+use Rattle.commands.specs.declared.packed_command.PackedName.TheVariants.{Program, ProgramBytes, List as Listing, One, Image}
 
 -- the kind that a word names
 unfoldable pub kind_of : List ℕ → Option Kind

@@ -11,8 +11,8 @@ use Rattle.commands.specs.declared.machine.EngineCommand.TheVariants.{Move, Move
 use Rattle.commands.specs.declared.machine.EngineName.{EngineName}
 use Rattle.commands.specs.declared.machine.EngineName.TheVariants.{Step as StepName, Turn as TurnName, Steps as StepsName, Turns as TurnsName, Hold as HoldName, Give as GiveName, Read as ReadName, Take as TakeName, Clear as ClearName, Record as RecordName, Tags as TagsName, Core as CoreName, Token as TokenName}
 use Rattle.commands.specs.declared.machine.Move.TheVariants.{Step, Turn}
-use Rattle.commands.specs.declared.packed.PackedName.{PackedName}
-use Rattle.commands.specs.declared.packed.PackedName.TheVariants.{Program, ProgramBytes, List as Listing, One, Image}
+use Rattle.commands.specs.declared.packed_command.PackedName.{PackedName}
+use Rattle.commands.specs.declared.packed_command.PackedName.TheVariants.{Program, ProgramBytes, List as Listing, One, Image}
 use Rattle.commands.specs.declared.reason.Reason.{Reason}
 use Rattle.commands.specs.declared.reason.Reason.TheVariants.{UnknownCommand, NotFiveBytes, UnknownKind}
 use Rattle.buffers.specs.Buffers.{MemorySaid, words, bytes, OutletSaid, store, over}

@@ -7,8 +7,8 @@ use Rattle.commands.specs.declared.command.Command.TheVariants.{Packed, Memory, 
 use Rattle.commands.specs.declared.command.Settings.{Settings}
 use Rattle.commands.specs.declared.kind.Kind.{Kind}
 use Rattle.commands.specs.declared.machine.EngineCommand.{EngineCommand}
-use Rattle.commands.specs.declared.packed.PackedCommand.{PackedCommand}
-use Rattle.commands.specs.declared.packed.PackedCommand.TheVariants.{Program, List as Listing, One, Image}
+use Rattle.commands.specs.declared.packed_command.PackedCommand.{PackedCommand}
+use Rattle.commands.specs.declared.packed_command.PackedCommand.TheVariants.{Program, List as Listing, One, Image}
 
 -- a command on programs and packed words
 pub data PackedSaid : Type 0 where

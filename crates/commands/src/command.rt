@@ -7,7 +7,7 @@ ghost use Rattle.commands.specs.Said.{settings_said, said};
 ghost use Rattle.commands.specs.Words.{left};
 
 use crate::machine::{EngineCommand, EngineName};
-use crate::packed::{PackedCommand, PackedName};
+use crate::packed_command::{PackedCommand, PackedName};
 use crate::reason::{ParseError, Reason};
 use crate::setting::{memory_buffer, outlet_buffer};
 use crate::words::{Words, is};

@@ -4,7 +4,7 @@
 pub mod command;
 pub mod kind;
 pub mod machine;
-pub mod packed;
+pub mod packed_command;
 pub mod reason;
 mod setting;
 mod words;

@@ -9,7 +9,7 @@ use commands::machine::EngineCommand;
 use commands::reason::{ParseError, Reason};
 use program::program::Program;
 use render::line::write_line;
-use render::packed;
+use render::packed_answers;
 use std::alloc::{AllocError, Global};
 use tokens::line::{next_token, without_remark};
 
@@ -143,7 +143,7 @@ impl Console {
         match command {
             Command::Packed(command) => {
                 write_head(out, text)?;
-                packed::answer(command, heap, &mut self.program, out)?;
+                packed_answers::answer(command, heap, &mut self.program, out)?;
                 Ok(Next::Line)
             }
             Command::Memory(buffer) => {

@@ -7,8 +7,8 @@ use Rattle.formats.specs.declared.instruction.Instruction.TheVariants.{Halt}
 use Rattle.program.specs.Reading.{read_program}
 use Rattle.text.specs.Texts.{instruction_text}
 use Rattle.commands.specs.declared.kind.Kind.{Kind}
-use Rattle.commands.specs.declared.packed.PackedCommand.{PackedCommand}
-use Rattle.commands.specs.declared.packed.PackedCommand.TheVariants.{Program as OfProgram, List as OfList, One as OfOne, Image as OfImage}
+use Rattle.commands.specs.declared.packed_command.PackedCommand.{PackedCommand}
+use Rattle.commands.specs.declared.packed_command.PackedCommand.TheVariants.{Program as OfProgram, List as OfList, One as OfOne, Image as OfImage}
 use Rattle.render.specs.Told.{kind_bytes, told, count_read, after_reading, program_told}
 
 -- a text and the line's end

@@ -3,5 +3,5 @@
 
 mod entries;
 pub mod line;
-pub mod packed;
+pub mod packed_answers;
 pub mod tell;

@@ -2,9 +2,7 @@
 
 // Tests at the edges of the formats, the packed list, the program reader, memory, outlet, and the console's text, commands and lines.
 #[cfg(test)]
-mod codecs;
-#[cfg(test)]
-mod commands;
+mod command_lines;
 #[cfg(test)]
 mod lists;
 #[cfg(test)]
@@ -12,10 +10,12 @@ mod memories;
 #[cfg(test)]
 mod outlets;
 #[cfg(test)]
+mod packing;
+#[cfg(test)]
 mod programs;
 #[cfg(test)]
 mod refusals;
 #[cfg(test)]
-mod render;
-#[cfg(test)]
 mod texts;
+#[cfg(test)]
+mod told_lines;

@@ -1,8 +1,8 @@
 // The lines of a list and of an image: none, spare bytes, and a refused entry among others.
 use commands::kind::Kind;
-use commands::packed::PackedCommand;
+use commands::packed_command::PackedCommand;
 use program::program::Program;
-use render::packed::answer;
+use render::packed_answers::answer;
 use std::alloc::{AllocError, Global};
 use std::test::Fail;
 

@@ -2,7 +2,7 @@ use Rattle.std.proofs.Common.{◌≡◌, ℕ, ◌/◌, ◌%◌, List, ◌++◌, 
 use Rattle.render.specs.Lines.{ended, entry_line, image_head}
 use Rattle.render.specs.Told.{kind_bytes}
 use Rattle.render.proofs.Gathered.{line_more, gathered}
-use Rattle.render.proofs.packed.show_image.Goals as goal
+use Rattle.render.proofs.packed_answers.show_image.Goals as goal
 
 pub loop-place-preserved : goal.loop-place-preserved
 loop-place-preserved c =

@@ -3,7 +3,7 @@ use Rattle.std.specs.Option.{option_map}
 use Rattle.program.specs.Programs.{instructions_of}
 use Rattle.render.specs.Lines.{ended, instruction_line, listed}
 use Rattle.render.proofs.Gathered.{line_more, gathered}
-use Rattle.render.proofs.packed.list.Goals as goal
+use Rattle.render.proofs.packed_answers.list.Goals as goal
 
 pub loop-place-preserved : goal.loop-place-preserved
 loop-place-preserved c =

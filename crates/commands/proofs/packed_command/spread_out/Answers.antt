@@ -1,7 +1,7 @@
 use Rattle.std.proofs.Common.{◌++◌, sym, ap, ◌∙◌, take_all}
 use Rattle.commands.specs.Parsing.{spread}
 use Rattle.commands.proofs.Spread.{spread_more}
-use Rattle.commands.proofs.packed.spread_out.Goals as goal
+use Rattle.commands.proofs.packed_command.spread_out.Goals as goal
 
 pub loop-number-preserved : goal.loop-number-preserved
 loop-number-preserved c =

@@ -1,6 +1,6 @@
 use Rattle.std.proofs.Common.{sym}
 use Rattle.commands.specs.Names.{packed_name_of}
-use Rattle.commands.proofs.packed.PackedName.named.Goals as goal
+use Rattle.commands.proofs.packed_command.PackedName.named.Goals as goal
 
 pub returns-then-is-2 : goal.returns-then-is-2
 unfolding packed_name_of

@@ -2,7 +2,7 @@
 use commands::command::Command;
 use commands::kind::Kind;
 use commands::machine::{EngineCommand, Move};
-use commands::packed::PackedCommand;
+use commands::packed_command::PackedCommand;
 use commands::reason::{ParseError, Reason};
 use std::alloc::Global;
 use std::test::Fail;

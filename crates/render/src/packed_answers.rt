@@ -10,7 +10,7 @@ use crate::entries::{count, spare, tell_at};
 use crate::line::write_line;
 use answers::refusal::{ProgramRefusal, Refusal};
 use commands::kind::Kind;
-use commands::packed::PackedCommand;
+use commands::packed_command::PackedCommand;
 use digits::refused::RefusedAt;
 use program::program::Program;
 use std::alloc::{AllocError, Global};
