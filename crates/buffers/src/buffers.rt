@@ -1,6 +1,6 @@
 // The memory and the outlet that the next engine is made from.
 ghost use Rattle.std.specs.Prelude.{◌≡◌, replicate, IfOk};
-ghost use Rattle.buffers.specs.Buffers.{memory_said, outlet_said, words as saidWords, words_in, room_in};
+ghost use Rattle.buffers.specs.Buffers.{memory_said, outlet_said, words as said_words, words_in, room_in};
 
 use memory::shared::MOST_WORDS;
 use outlet::store::StoreOutlet;
@@ -24,7 +24,7 @@ pub enum OutletBuffer {
 impl MemoryBuffer {
     // Sixteen zero words.
     pub fn plain(heap: Global) -> Result<MemoryBuffer, AllocError>
-        ensures { IfOk result (λ b. memory_said b ≡ saidWords (replicate 16 0)) }
+        ensures { IfOk result (λ b. memory_said b ≡ said_words (replicate 16 0)) }
     {
         Ok(MemoryBuffer::Words(vec![in heap; 0; 16]?))
     }

@@ -3,7 +3,7 @@
 use Rattle.std.proofs.Common.{◌≡◌, ℕ, true, false, List, [], ◌∷◌, ◌++◌, Some, None, Ok, Err, codes, Option, Result, sym, refl, ap, ◌∙◌, append_assoc, append-nil, arith}
 use Rattle.std.specs.Result.{result_map_both}
 use Rattle.std.specs.Str.{bytes_eq}
-use Rattle.std.specs.Option.{option_map as mappedSome}
+use Rattle.std.specs.Option.{option_map as mapped_some}
 use Rattle.tokens.specs.declared.number.NumberFault.{NumberFault}
 use Rattle.tokens.specs.Numbers.{read_number}
 use Rattle.commands.specs.declared.reason.Reason.{Reason}
@@ -44,9 +44,9 @@ stays view other next (NotUnderstood reason) wanted h = ap (λ r. then r next) h
 stays view other next NoMemory wanted h = tt
 
 -- so it is what a line says
-pub line_stays : (r : Result (Option Command) ParseError) (y error : ParseError) (ws rest : List (List ℕ)) (word : List ℕ) → r ≡ Err y → y ≡ error → ws ≡ word ∷ rest → Reads said (Err error) (named_of word rest) → Reads (mappedSome said) r (line_of ws)
+pub line_stays : (r : Result (Option Command) ParseError) (y error : ParseError) (ws rest : List (List ℕ)) (word : List ℕ) → r ≡ Err y → y ≡ error → ws ≡ word ∷ rest → Reads said (Err error) (named_of word rest) → Reads (mapped_some said) r (line_of ws)
 line_stays r y error ws rest word is same split h =
-    rw (is, same, split) (stays said (mappedSome said) (λ s. Ok (Some s)) error (named_of word rest) h)
+    rw (is, same, split) (stays said (mapped_some said) (λ s. Ok (Some s)) error (named_of word rest) h)
 
 -- `bytes` after `outlet`
 pub outlet_zeros : (ws rest : List (List ℕ)) (word : List ℕ) → ws ≡ word ∷ rest → false ≡ bytes_eq word (codes "store") → true ≡ bytes_eq word (codes "bytes") → zeros_of rest ≡ outlet_of ws

@@ -3,7 +3,7 @@
 use Rattle.std.specs.Prelude.{ℕ, cond, List, [], ◌∷◌, ◌++◌, length, replicate, Some, None, Ok, Err, codes, Option, Result, ◌==◌}
 use Rattle.std.specs.Option.{ok_or}
 use Rattle.std.specs.Str.{bytes_eq}
-use Rattle.memory.specs.Bytes.{bytes_of as fourBytes}
+use Rattle.memory.specs.Bytes.{bytes_of as four_bytes}
 use Rattle.commands.specs.declared.kind.Kind.{Kind}
 use Rattle.commands.specs.declared.kind.Kind.TheVariants.{Instruction, Entry, Sent}
 use Rattle.commands.specs.declared.machine.EngineCommand.{EngineCommand}
@@ -23,7 +23,7 @@ use Rattle.commands.specs.Words.{words_of, others, then, word_of, number_of, byt
 -- numbers as bytes, four each, most significant first
 abbrev pub spread : List ℕ → List ℕ
 spread [] = []
-spread (n ∷ ns) = fourBytes n ++ spread ns
+spread (n ∷ ns) = four_bytes n ++ spread ns
 
 -- five bytes exactly
 abbrev pub five : List ℕ → Result (List ℕ) Reason
@@ -31,8 +31,8 @@ five bs = cond (length bs == 5) (Ok bs) (Err NotFiveBytes)
 
 -- a packed entry of a kind: a word, or five bytes for what was sent
 abbrev pub entry_of : Kind → List (List ℕ) → Result (List ℕ) Reason
-entry_of Instruction ws = then (number_of ws) (λ n. Ok (fourBytes n))
-entry_of Entry ws = then (number_of ws) (λ n. Ok (fourBytes n))
+entry_of Instruction ws = then (number_of ws) (λ n. Ok (four_bytes n))
+entry_of Entry ws = then (number_of ws) (λ n. Ok (four_bytes n))
 entry_of Sent ws = then (bytes_of ws) five
 
 -- the program of some words

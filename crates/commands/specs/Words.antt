@@ -10,6 +10,21 @@ use Rattle.commands.specs.declared.reason.Reason.TheVariants.{MissingWord, Numbe
 use Rattle.commands.specs.declared.words.Words.{Words}
 use Rattle.commands.specs.Reasons.{number_reason}
 
+-- the word itself, of a word and the text after it
+abbrev pub first_of : Option (List ℕ × List ℕ) → Option (List ℕ)
+first_of None = None
+first_of (Some p) = Some p.0
+
+-- the text after it; where there is no word, the text as it was
+abbrev pub rest_of : List ℕ → Option (List ℕ × List ℕ) → List ℕ
+rest_of text None = text
+rest_of text (Some p) = p.1
+
+-- a word more than wanted
+abbrev pub end_of : Option (List ℕ × List ℕ) → Result (Unit {0}) Reason
+end_of None = Ok tt
+end_of (Some p) = Err ExtraWord
+
 -- a token, and the words of the text after it
 abbrev pub listed : (List ℕ → List (List ℕ)) → Option (List ℕ × List ℕ) → List (List ℕ)
 listed words None = []

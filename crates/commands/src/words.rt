@@ -1,10 +1,11 @@
 // The words of a line, taken from left to right.
-ghost use Rattle.std.specs.Prelude.{◌≡◌, vec_items};
+ghost use Rattle.std.specs.Prelude.{◌≡◌, ◌<◌, length, OnSome, vec_items};
 ghost use Rattle.std.specs.Option.{option_map};
-ghost use Rattle.std.specs.Result.{result_map_both as mappedOk};
+ghost use Rattle.std.specs.Result.{result_map_both as mapped_ok};
 ghost use Rattle.std.specs.Str.{bytes_eq};
 ghost use Rattle.commands.specs.Reasons.{Reads};
-ghost use Rattle.commands.specs.Words.{words_of, left, first, others, word_of, number_of, times_of, bytes_of, numbers_of, ended, last_number_of, last_times_of};
+ghost use Rattle.tokens.specs.Lines.{next_token};
+ghost use Rattle.commands.specs.Words.{first_of, rest_of, end_of, words_of, left, first, others, word_of, number_of, times_of, bytes_of, numbers_of, ended, last_number_of, last_times_of};
 
 use crate::reason::{ParseError, Reason};
 use std::alloc::Global;
@@ -37,6 +38,9 @@ impl<'a> Words<'a> {
 
     // The next word, if there is one.
     pub(crate) fn next(&mut self) -> Option<&'a [u8]>
+        ensures token { option_map (λ x. x.now) result ≡ first_of (next_token self.old.rest.now) }
+        ensures rest { self.new.rest.now ≡ rest_of self.old.rest.now (next_token self.old.rest.now) }
+        ensures less { OnSome result (length self.new.rest.now < length self.old.rest.now) }
         ensures value { option_map (λ x. x.now) result ≡ first (left self.old) }
         ensures after { left self.new ≡ others (left self.old) }
     {
@@ -47,7 +51,7 @@ impl<'a> Words<'a> {
 
     // The next word, which has to be there.
     pub(crate) fn word(&mut self) -> Result<&'a [u8], Reason>
-        ensures value { mappedOk (λ x. x.now) (λ reason. reason) result ≡ word_of (left self.old) }
+        ensures value { mapped_ok (λ x. x.now) (λ reason. reason) result ≡ word_of (left self.old) }
         ensures after { left self.new ≡ others (left self.old) }
     {
         self.next().ok_or(Reason::MissingWord)
@@ -109,7 +113,8 @@ impl<'a> Words<'a> {
 
     // The value, where no word is left.
     pub(crate) fn end<T: Drop>(mut self, value: T) -> Result<T, Reason>
-        ensures { result ≡ ended (left self.entry) value }
+        ensures value { result ≡ ended (left self.entry) value }
+        ensures token { mapped_ok (λ x. tt) (λ reason. reason) result ≡ end_of (next_token self.entry.rest.now) }
     {
         match self.next() {
             None => Ok(value),

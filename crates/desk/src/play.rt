@@ -1,7 +1,7 @@
 // Playing a list of calls on a new engine. The three laws stand in this call's contract.
 ghost use Rattle.std.specs.Prelude.{◌≡◌, ◌++◌, length, drop};
 ghost use Rattle.model.specs.Engine.{make};
-ghost use Rattle.model.specs.Runs.{replies as modelReplies};
+ghost use Rattle.model.specs.Runs.{replies as model_replies};
 ghost use Rattle.model.specs.Journal.{history};
 ghost use Rattle.model.specs.Laws.{Lawful};
 ghost use Rattle.engine.specs.Engines.{outlet_of, settings_of};
@@ -26,7 +26,7 @@ pub fn play<M: Memory, O: Outlet>(
     replies: &mut [Reply],
 ) -> Desk<M, O>
     ensures engine { desk_engine M.Memory O.Outlet result ≡ (history (settings_of program places.now lines) (M.Memory.words memory) (outlet_of O.Outlet outlet) (playable calls.now replies.old)).engine }
-    ensures replies { replies.new ≡ modelReplies (make (settings_of program places.now lines) (M.Memory.words memory) (outlet_of O.Outlet outlet)) (playable calls.now replies.old) ++ drop (length (playable calls.now replies.old)) replies.old }
+    ensures replies { replies.new ≡ model_replies (make (settings_of program places.now lines) (M.Memory.words memory) (outlet_of O.Outlet outlet)) (playable calls.now replies.old) ++ drop (length (playable calls.now replies.old)) replies.old }
     ensures lawful { Lawful (settings_of program places.now lines) (M.Memory.words memory) (outlet_of O.Outlet outlet) (playable calls.now replies.old) }
 {
     let mut desk = Desk::make(program, places, lines, memory, outlet);

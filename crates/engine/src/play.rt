@@ -1,7 +1,7 @@
 // Playing a list of calls on a new engine. The three laws stand in this call's contract.
 ghost use Rattle.std.specs.Prelude.{◌≡◌, ◌++◌, length, drop, is_some};
 ghost use Rattle.model.specs.Engine.{make};
-ghost use Rattle.model.specs.Runs.{reply, played, replies as modelReplies};
+ghost use Rattle.model.specs.Runs.{reply, played, replies as model_replies};
 ghost use Rattle.model.specs.Journal.{history};
 ghost use Rattle.model.specs.Laws.{Lawful};
 ghost use Rattle.engine.specs.Engines.{outlet_of, engine_of, settings_of, host_has, playable};
@@ -61,7 +61,7 @@ pub fn play<M: Memory, O: Outlet>(
     replies: &mut [Reply],
 ) -> Session<M, O>
     ensures engine { engine_of M.Memory O.Outlet result.engine ≡ (history (settings_of program places.now lines) (M.Memory.words memory) (outlet_of O.Outlet outlet) (playable calls.now replies.old)).engine }
-    ensures replies { replies.new ≡ modelReplies (make (settings_of program places.now lines) (M.Memory.words memory) (outlet_of O.Outlet outlet)) (playable calls.now replies.old) ++ drop (length (playable calls.now replies.old)) replies.old }
+    ensures replies { replies.new ≡ model_replies (make (settings_of program places.now lines) (M.Memory.words memory) (outlet_of O.Outlet outlet)) (playable calls.now replies.old) ++ drop (length (playable calls.now replies.old)) replies.old }
     ensures lawful { Lawful (settings_of program places.now lines) (M.Memory.words memory) (outlet_of O.Outlet outlet) (playable calls.now replies.old) }
     ensures pass { is_some result.pass ≡ host_has (engine_of M.Memory O.Outlet result.engine).token }
 {

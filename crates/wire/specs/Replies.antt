@@ -1,9 +1,10 @@
 -- A reply as eight bytes: what was asked, the refusal, the answer, the fault, and a word.
 --   reply_bytes   a reply;  fault_bytes  what answers a word that is no call
 -- Assumes nothing.
-use Rattle.std.specs.Prelude.{ℕ, ◌%◌, List, ◌∷◌, Ok, Err, Result, slice_index}
+use Rattle.std.specs.Prelude.{ℕ, ◌%◌, List, ◌∷◌, Ok, Err, Result}
 use Rattle.answers.specs.declared.answer.Answer.{Answer}
-use Rattle.answers.specs.Answers.{answer_number, answer_values}
+use Rattle.answers.specs.declared.answer.Answer.TheVariants.{Running, Waiting, Done, Committing, Early, Full, Stopped, RolledBack, Retried, Faulted}
+use Rattle.answers.specs.Answers.{fault_number}
 use Rattle.answers.specs.Refusals.{nothing_waits_number}
 use Rattle.answers.specs.declared.refusal.NothingWaits.{NothingWaits}
 use Rattle.formats.specs.declared.entry.SentEntry.{SentEntry}
@@ -14,15 +15,54 @@ use Rattle.model.specs.declared.call.Reply.{Reply}
 use Rattle.model.specs.declared.call.Reply.TheVariants.{Stepped, Cleared, Held, Word, GivenBack, Taken}
 use Rattle.model.specs.Refusals.{step_number, clear_number, hold_number, read_number, give_back_number}
 use Rattle.wire.specs.declared.call.CallFault.{CallFault}
-use Rattle.wire.specs.Calls.{fault_number as callFaultNumber}
+use Rattle.wire.specs.Calls.{fault_number as call_fault_number}
 
 -- the eight bytes, by place: four numbers, and a word, most significant byte first
 abbrev pub entry : ℕ → ℕ → ℕ → ℕ → ℕ → List ℕ
 entry kind refusal answer fault word = kind ∷ refusal ∷ answer ∷ fault ∷ bytes_of word
 
--- a step that was not refused: its answer's number, and of a fault its number and the pc
+-- a step's answer, by number
+abbrev pub answer_number : Answer → ℕ
+answer_number Running = 1
+answer_number Waiting = 2
+answer_number Done = 3
+answer_number Committing = 4
+answer_number Early = 5
+answer_number Full = 6
+answer_number Stopped = 7
+answer_number RolledBack = 8
+answer_number Retried = 9
+answer_number (Faulted f pc) = 10
+
+-- the number of a step's fault, 0 where there is none
+abbrev pub fault_in : Answer → ℕ
+fault_in Running = 0
+fault_in Waiting = 0
+fault_in Done = 0
+fault_in Committing = 0
+fault_in Early = 0
+fault_in Full = 0
+fault_in Stopped = 0
+fault_in RolledBack = 0
+fault_in Retried = 0
+fault_in (Faulted f pc) = fault_number f
+
+-- the pc of a step's fault, 0 where there is none
+abbrev pub pc_in : Answer → ℕ
+pc_in Running = 0
+pc_in Waiting = 0
+pc_in Done = 0
+pc_in Committing = 0
+pc_in Early = 0
+pc_in Full = 0
+pc_in Stopped = 0
+pc_in RolledBack = 0
+pc_in Retried = 0
+pc_in (Faulted f pc) = pc % 4294967296
+
+-- a step that was not refused
 abbrev pub answer_bytes : Answer → List ℕ
-answer_bytes a = entry 1 0 (answer_number a) (slice_index (answer_values a) 0) (slice_index (answer_values a) 1 % 4294967296)
+answer_bytes a = entry 1 0 (answer_number a) (fault_in a) (pc_in a)
 
 -- a step
 abbrev pub stepped_bytes : Result Answer StepRefusal → List ℕ
@@ -55,4 +95,4 @@ reply_bytes (Taken r) = taken_bytes r
 
 -- what answers a word that is no call
 abbrev pub fault_bytes : CallFault → List ℕ
-fault_bytes f = entry 0 (callFaultNumber f) 0 0 0
+fault_bytes f = entry 0 (call_fault_number f) 0 0 0

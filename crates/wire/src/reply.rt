@@ -1,6 +1,6 @@
 // A reply as eight bytes: what was asked, the refusal, the answer, the fault, and a word.
 ghost use Rattle.std.specs.Prelude.{◌≡◌};
-ghost use Rattle.wire.specs.Replies.{entry, answer_bytes, stepped_bytes, plain_bytes, word_bytes, taken_bytes, reply_bytes, fault_bytes};
+ghost use Rattle.wire.specs.Replies.{entry, answer_number, answer_bytes, stepped_bytes, plain_bytes, word_bytes, taken_bytes, reply_bytes, fault_bytes};
 
 use crate::call::CallFault;
 use answers::answer::Answer;
@@ -32,11 +32,29 @@ fn entry(kind: u8, refusal: u8, answer: u8, fault: u8, word: u32) -> [u8; 8]
     [kind, refusal, answer, fault, a, b, c, d]
 }
 
+// The number by which a step's answer is reported.
+pub fn answer_number(answer: Answer) -> u8
+    ensures { result ≡ answer_number answer }
+{
+    match answer {
+        Answer::Running => 1,
+        Answer::Waiting => 2,
+        Answer::Done => 3,
+        Answer::Committing => 4,
+        Answer::Early => 5,
+        Answer::Full => 6,
+        Answer::Stopped => 7,
+        Answer::RolledBack => 8,
+        Answer::Retried => 9,
+        Answer::Faulted { .. } => 10,
+    }
+}
+
 // The eight bytes of a step that was not refused.
 fn answer_bytes(answer: Answer) -> [u8; 8]
     ensures { result ≡ answer_bytes answer }
 {
-    let number = answer.number();
+    let number = answer_number(answer);
     match answer {
         Answer::Faulted { fault, pc } => entry(
             STEP,
