@@ -3,7 +3,7 @@
  * Four cores add 1 to the same word over and over, each in a block of its own, so that blocks conflict, roll back and wait
  * for the commit token. A list of turns, with a clear after every 61st, is played on a new engine again and again.
  *
- *   rt staticlib bench
+ *   bash tools/staticlib.sh
  *   cc -O2 tools/bench.c target/staticlib/libbench.a -o /some/where/bench
  *   /some/where/bench [millions of calls]
  *

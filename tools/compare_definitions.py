@@ -5,7 +5,7 @@
 
 writes crates/worked/specs/Compared.antt and crates/worked/proofs/Compared.antt; the check of that crate then computes the
 same runs from the definitions and compares. With --check nothing is written: the files must say what would be written, the
-layout of their lines aside.
+layout of their lines and imports that these runs do not need aside.
 """
 
 import argparse
@@ -129,13 +129,13 @@ def listed(items):
 
 def instruction(i):
     shown = {"d": lambda n: f"R{n}", "a": lambda n: f"R{n}", "b": lambda n: f"R{n}",
-             "n": lambda n: f"(channelOf {n})" if i.name == "OUT" else f"(imm {n} (lit< tt))"}
+             "n": lambda n: f"(channel_of {n})" if i.name == "OUT" else f"(imm {n} (lit< tt))"}
     word = "EarlyToken" if i.name == "EARLY" else i.name.capitalize()
     return " ".join([word, *(shown[field](getattr(i, field)) for field in FIELDS[i.name])])
 
 
 def sent(entry):
-    return f"sentWord (channelOf {entry.channel}) {entry.word}"
+    return f"sent_word (channel_of {entry.channel}) {entry.word}"
 
 
 def reply(call, answer):
@@ -158,7 +158,7 @@ def reply(call, answer):
 
 def look(core):
     registers = listed(core.registers)
-    return f"lookOf {STATES[core.state.name]} {core.pc} {registers} {core.depth} {core.count} {len(core.lines)}"
+    return f"look_of {STATES[core.state.name]} {core.pc} {registers} {core.depth} {core.count} {len(core.lines)}"
 
 
 def token(value):
@@ -185,11 +185,11 @@ def statement(run, tally):
               " ".join(reply(call, answer).split()[:3])] += 1
     for entry in engine.record:
         tally[f"mark {entry.mark}"] += 1
-    start = f"engineOf {listed(map(instruction, code))} {listed(places)} {lines} {listed(memory)} {room}"
+    start = f"engine_of {listed(map(instruction, code))} {listed(places)} {lines} {listed(memory)} {room}"
     called = listed(" ".join([CALLS[name], *map(str, arguments)]) for name, *arguments in calls_made)
     replied = listed(reply(call[0], answer) for call, answer in zip(calls_made, answers))
-    entries = listed(f"entryOf {core} {MARKS[mark]} {count}" for core, mark, count in engine.record)
-    final = (f"finalOf {listed(engine.memory.words)} {listed(map(sent, engine.outlet.entries()))} {engine.outlet.room()} "
+    entries = listed(f"entry_of {core} {MARKS[mark]} {count}" for core, mark, count in engine.record)
+    final = (f"final_of {listed(engine.memory.words)} {listed(map(sent, engine.outlet.entries()))} {engine.outlet.room()} "
              f"{token(engine.token)} {entries} {engine.next_turn} {listed(map(look, engine.cores))}")
     return f"    Agrees ({start})\n    {called}\n    {replied}\n    ({final})\n"
 
@@ -202,11 +202,26 @@ def texts(seed, count, length, tally):
         specs += f"  pub run{number} :\n{statement(random_run(rng, length), tally)}"
     fields = "; ".join(f"run{number} = (refl, refl)" for number in range(count))
     proofs = ("-- The definitions compute what the simulator says.\n-- Assumes nothing.\n"
-              "use mathlib.Core.Path.{refl}\nuse Rattle·model.specs.Instructions.{asks, outerAt, innerAt}\n"
-              "use Rattle·worked·specs.Compared.{Compared}\n\n"
-              "pub compared : Compared\nunfolding asks outerAt innerAt\n"
+              "use Rattle.std.proofs.Common.{refl}\nuse Rattle.model.specs.Instructions.{asks, outer_at, inner_at}\n"
+              "use Rattle.worked.specs.Compared.{Compared}\n\n"
+              "pub compared : Compared\nunfolding asks outer_at inner_at\n"
               f"compared = record {{ {fields} }}\n")
     return {"specs": specs, "proofs": proofs}
+
+
+def said(text):
+    """The words of a file, without its imports."""
+    return [word for line in text.splitlines() if not line.startswith("use ") for word in line.split()]
+
+
+def imports(text):
+    """The items that a file imports, each with its module."""
+    lines = (line[4:].split(".{") for line in text.splitlines() if line.startswith("use "))
+    return {(module, item) for module, items in lines for item in items.rstrip("}").split(", ")}
+
+
+def agrees(text, wanted):
+    return said(text) == said(wanted) and imports(text) <= imports(wanted)
 
 
 def main():
@@ -221,7 +236,7 @@ def main():
         path = CRATE / folder / "Compared.antt"
         if not options.check:
             path.write_text(text)
-        elif path.read_text().split() != text.split():
+        elif not agrees(path.read_text(), text):
             same = False
             print(f"{path.relative_to(TOOLS.parent)} does not say what the simulator says")
     if not options.check:

@@ -1,17 +1,14 @@
 #!/usr/bin/env bash
 # Code that must not build: a pass let go, dropped, given back twice or forged. Each file of tools/pass-trials is a crate of
 # its own whose first line says whether it builds, or the compiler's error by which it is refused. They are compiled in a copy
-# of the sources, against the engine; what is proved already (target/) is taken over, and else the first trial proves it.
+# of the sources, against the engine; what is proved already (crates/*/out) is taken over, and else the first trial proves it.
 set -uo pipefail
 cd "$(dirname "$0")/.."
 copy=$(mktemp -d)
 trap 'rm -rf "$copy"' EXIT
-mkdir "$copy/target"
-cp -r crates crates.txt "$copy"
-for part in rlib stamp log; do
-  if [ -d "target/$part" ]; then cp -r "target/$part" "$copy/target"; fi
-done
-echo 'attempt: answers formats codecs packed program memory outlet model cores bank engine' >> "$copy/crates.txt"
+git init -q "$copy"
+tar cf - --exclude=incremental crates crates.txt | tar xf - -C "$copy"
+echo 'attempt: answers formats codecs packed program memory outlet model cores bank laws engine' >> "$copy/crates.txt"
 passed=0
 failed=0
 for file in tools/pass-trials/*.txt; do
@@ -19,7 +16,7 @@ for file in tools/pass-trials/*.txt; do
   want=$(head -n 1 "$file" | sed 's|^// ||')
   mkdir -p "$copy/crates/attempt/src"
   cp "$file" "$copy/crates/attempt/src/lib.rt"
-  out=$(cd "$copy" && rt dev attempt 2>&1)
+  out=$(cd "$copy/crates/attempt" && rt check 2>&1)
   status=$?
   errors=$(printf '%s\n' "$out" | grep -o 'error\[[a-z0-9-]*\]' | sort -u)
   case "$want" in

@@ -103,9 +103,8 @@ fn result_code(res: Result<usize, PlayRefusal>) -> u64
     }
 }
 
-// The same for C, with the answer as one number.
-#[unsafe(no_mangle)]
-pub extern "C" fn hub_play(
+// The same for C, with the answer as one number. Crate bench_c exports it.
+pub fn hub_play(
     program: &[u8],
     settings: &[u8],
     memory: &mut [u8],
