@@ -28,10 +28,6 @@ CHOSEN = {
     "loads-line": "loads_line_lem",
     "newCores": "new_cores",
     "new-cores": "new_cores_lem",
-    "noA": "no_a_lem",
-    "noB": "no_b_lem",
-    "noD": "no_d_lem",
-    "noN": "no_n_lem",
     "oneMore": "after_one_more",
     "rollBack": "roll_back",
     "roll-back": "roll_back_lem",
@@ -43,10 +39,11 @@ HEAD = re.compile(r"^(?:abbrev |unfoldable )?(?:pub )?(?:abbrev )?([^\s:=]+(?: +
 FIELD = re.compile(r"^  (?:pub )?((?!let |in )[a-z][^\s:=]*(?: +[a-z][^\s:=]*)*) : ")
 LOOSE = ("use ", "pub use ", "mod ", "pub mod ", "unfolding ", "data ", "pub data ", "record ", "pub record ", "infix", "--")
 TOKEN = re.compile(r"[A-Za-z_][A-Za-z0-9_'₀-₉ℓℕℤ]*(?:[-][A-Za-z0-9_'*+≤<≡ℕℤ][A-Za-z0-9_'*+≤<≡ℕℤ]*)*")
-# What a definition's name could be taken for: in antt any word that is no part of a path, in code a parameter, a field or a constant.
+# What a definition's name could be taken for: in antt any word that is no part of a path, in code what a clause can name, a
+# parameter, a field or a constant.
 NEAR = {
     False: re.compile(r"(?<![\w'.·-])[A-Za-z_][\w']*(?:-[\w'*+≤<≡ℕℤ]+)*(?![\w'.-])"),
-    True: re.compile(r"\b([a-z_]\w*)\s*:(?!:)|\blet (?:mut )?([a-z_]\w*)"),
+    True: re.compile(r"\b([a-z_]\w*)\s*:(?!:)"),
 }
 PLAIN = re.compile(r"[a-z][A-Za-z0-9']*(?:[-_][A-Za-z0-9']+)*\Z")
 

@@ -185,55 +185,55 @@ module _ (f : Fields) where
   o : ℕ
   o = f.opcode
 
-  no_d_lem : Bool
-  no_d_lem = eqb (register_number f.d) 0
+  no_d : Bool
+  no_d = eqb (register_number f.d) 0
 
-  no_a_lem : Bool
-  no_a_lem = eqb (register_number f.a) 0
+  no_a : Bool
+  no_a = eqb (register_number f.a) 0
 
-  no_b_lem : Bool
-  no_b_lem = eqb (register_number f.b) 0
+  no_b : Bool
+  no_b = eqb (register_number f.b) 0
 
-  no_n_lem : Bool
-  no_n_lem = eqb f.n.value 0
+  no_n : Bool
+  no_n = eqb f.n.value 0
 
   only : (t : Bool) (i e : Instruction) → (t ≡ true → encoded i ≡ f) → only_if t i ≡ Ok e → encoded e ≡ f
   only t i e then h = let p = only_back t i e h in subst (λ (j : Instruction). encoded j ≡ f) p.1 (then p.0)
 
   -- an instruction that names no field
-  bare : (k : ℕ) (i e : Instruction) → encoded i ≡ placed k R0 R0 R0 (immediate_of 0) → o ≡ k → only_if (no_d_lem && no_a_lem && no_b_lem && no_n_lem) i ≡ Ok e → encoded e ≡ f
-  unfolding o no_d_lem no_a_lem no_b_lem no_n_lem
-  bare k i e is p = only (no_d_lem && no_a_lem && no_b_lem && no_n_lem) i e (λ t.
-      let u = and_parts (no_d_lem && no_a_lem && no_b_lem) no_n_lem t in
-      let v = and_parts (no_d_lem && no_a_lem) no_b_lem u.0 in
-      let w = and_parts no_d_lem no_a_lem v.0 in
+  bare : (k : ℕ) (i e : Instruction) → encoded i ≡ placed k R0 R0 R0 (immediate_of 0) → o ≡ k → only_if (no_d && no_a && no_b && no_n) i ≡ Ok e → encoded e ≡ f
+  unfolding o no_d no_a no_b no_n
+  bare k i e is p = only (no_d && no_a && no_b && no_n) i e (λ t.
+      let u = and_parts (no_d && no_a && no_b) no_n t in
+      let v = and_parts (no_d && no_a) no_b u.0 in
+      let w = and_parts no_d no_a v.0 in
       is ∙ same_fields f k R0 R0 R0 (immediate_of 0) p (zero_register f.d w.0) (zero_register f.a w.1) (zero_register f.b v.1) (zero_immediate f.n u.1))
 
   -- an instruction of three registers
-  triple : (k : ℕ) (i e : Instruction) → encoded i ≡ placed k f.d f.a f.b (immediate_of 0) → o ≡ k → only_if no_n_lem i ≡ Ok e → encoded e ≡ f
-  unfolding o no_n_lem
-  triple k i e is p = only no_n_lem i e (λ t. is ∙ same_fields f k f.d f.a f.b (immediate_of 0) p refl refl refl (zero_immediate f.n t))
+  triple : (k : ℕ) (i e : Instruction) → encoded i ≡ placed k f.d f.a f.b (immediate_of 0) → o ≡ k → only_if no_n i ≡ Ok e → encoded e ≡ f
+  unfolding o no_n
+  triple k i e is p = only no_n i e (λ t. is ∙ same_fields f k f.d f.a f.b (immediate_of 0) p refl refl refl (zero_immediate f.n t))
 
   decoded_back : (e : Instruction) → decoded f ≡ Ok e → encoded e ≡ f
-  unfolding o no_d_lem no_a_lem no_b_lem no_n_lem
+  unfolding o no_d no_a no_b no_n
   decoded_back e =
       branch o 0 _ _ e (bare 0 Halt e refl)
-      (branch o 1 _ _ e (λ p. only (no_a_lem && no_b_lem) (Set f.d f.n) e (λ t. let u = and_parts no_a_lem no_b_lem t in same_fields f 1 _ R0 R0 _ p refl (zero_register f.a u.0) (zero_register f.b u.1) refl))
+      (branch o 1 _ _ e (λ p. only (no_a && no_b) (Set f.d f.n) e (λ t. let u = and_parts no_a no_b t in same_fields f 1 _ R0 R0 _ p refl (zero_register f.a u.0) (zero_register f.b u.1) refl))
       (branch o 2 _ _ e (triple 2 (Add f.d f.a f.b) e refl)
       (branch o 3 _ _ e (triple 3 (Sub f.d f.a f.b) e refl)
       (branch o 4 _ _ e (triple 4 (Mean f.d f.a f.b) e refl)
-      (branch o 5 _ _ e (λ p. only no_b_lem (Load f.d f.a f.n) e (λ t. same_fields f 5 _ _ R0 _ p refl refl (zero_register f.b t) refl))
-      (branch o 6 _ _ e (λ p. only no_d_lem (Store f.a f.b f.n) e (λ t. same_fields f 6 R0 _ _ _ p (zero_register f.d t) refl refl refl))
-      (branch o 7 _ _ e (λ p. only (no_d_lem && no_a_lem && no_b_lem) (Jump f.n) e (λ t. let u = and_parts (no_d_lem && no_a_lem) no_b_lem t in let v = and_parts no_d_lem no_a_lem u.0 in same_fields f 7 R0 R0 R0 _ p (zero_register f.d v.0) (zero_register f.a v.1) (zero_register f.b u.1) refl))
-      (branch o 8 _ _ e (λ p. only (no_d_lem && no_b_lem) (Jz f.a f.n) e (λ t. let u = and_parts no_d_lem no_b_lem t in same_fields f 8 R0 _ R0 _ p (zero_register f.d u.0) refl (zero_register f.b u.1) refl))
-      (branch o 9 _ _ e (λ p. only no_d_lem (Jlt f.a f.b f.n) e (λ t. same_fields f 9 R0 _ _ _ p (zero_register f.d t) refl refl refl))
+      (branch o 5 _ _ e (λ p. only no_b (Load f.d f.a f.n) e (λ t. same_fields f 5 _ _ R0 _ p refl refl (zero_register f.b t) refl))
+      (branch o 6 _ _ e (λ p. only no_d (Store f.a f.b f.n) e (λ t. same_fields f 6 R0 _ _ _ p (zero_register f.d t) refl refl refl))
+      (branch o 7 _ _ e (λ p. only (no_d && no_a && no_b) (Jump f.n) e (λ t. let u = and_parts (no_d && no_a) no_b t in let v = and_parts no_d no_a u.0 in same_fields f 7 R0 R0 R0 _ p (zero_register f.d v.0) (zero_register f.a v.1) (zero_register f.b u.1) refl))
+      (branch o 8 _ _ e (λ p. only (no_d && no_b) (Jz f.a f.n) e (λ t. let u = and_parts no_d no_b t in same_fields f 8 R0 _ R0 _ p (zero_register f.d u.0) refl (zero_register f.b u.1) refl))
+      (branch o 9 _ _ e (λ p. only no_d (Jlt f.a f.b f.n) e (λ t. same_fields f 9 R0 _ _ _ p (zero_register f.d t) refl refl refl))
       (branch o 10 _ _ e (bare 10 Begin e refl)
       (branch o 11 _ _ e (bare 11 End e refl)
       (branch o 12 _ _ e (bare 12 Retry e refl)
       (branch o 13 _ _ e (bare 13 Early e refl)
-      (branch o 14 _ _ e (λ p. only (no_d_lem && no_b_lem && ltb f.n.value 256) (Out f.a (channel_of f.n.value)) e (λ t.
-      let u = and_parts (no_d_lem && no_b_lem) (ltb f.n.value 256) t in
-      let v = and_parts no_d_lem no_b_lem u.0 in
+      (branch o 14 _ _ e (λ p. only (no_d && no_b && ltb f.n.value 256) (Out f.a (channel_of f.n.value)) e (λ t.
+      let u = and_parts (no_d && no_b) (ltb f.n.value 256) t in
+      let v = and_parts no_d no_b u.0 in
       let small : f.n.value < 256 = ltb-true f.n.value 256 u.1 in
       let value : f.n.value % 256 % 262144 ≡ f.n.value = omega arith in
       same_fields f 14 R0 _ R0 _ p (zero_register f.d v.0) refl (zero_register f.b v.1) (same_value 262144 (immediate_of (f.n.value % 256)) f.n value)))

@@ -61,30 +61,30 @@ only_if false i = Err BadField
 -- the instruction that some fields spell, or why there is none: the opcode is asked for first
 abbrev pub decoded : Fields → Result Instruction InstructionFault
 decoded f =
-    let no_d_lem = nat_eq (register_number f.d) 0 in
-    let no_a_lem = nat_eq (register_number f.a) 0 in
-    let no_b_lem = nat_eq (register_number f.b) 0 in
-    let no_n_lem = nat_eq f.n.value 0 in
+    let no_d = nat_eq (register_number f.d) 0 in
+    let no_a = nat_eq (register_number f.a) 0 in
+    let no_b = nat_eq (register_number f.b) 0 in
+    let no_n = nat_eq f.n.value 0 in
     let d = f.d in
     let a = f.a in
     let b = f.b in
     let n = f.n in
-    let none = no_d_lem && no_a_lem && no_b_lem && no_n_lem in
+    let none = no_d && no_a && no_b && no_n in
     cond (f.opcode == 0) (only_if none Halt)
-    (cond (f.opcode == 1) (only_if (no_a_lem && no_b_lem) (Set d n))
-    (cond (f.opcode == 2) (only_if no_n_lem (Add d a b))
-    (cond (f.opcode == 3) (only_if no_n_lem (Sub d a b))
-    (cond (f.opcode == 4) (only_if no_n_lem (Mean d a b))
-    (cond (f.opcode == 5) (only_if no_b_lem (Load d a n))
-    (cond (f.opcode == 6) (only_if no_d_lem (Store a b n))
-    (cond (f.opcode == 7) (only_if (no_d_lem && no_a_lem && no_b_lem) (Jump n))
-    (cond (f.opcode == 8) (only_if (no_d_lem && no_b_lem) (Jz a n))
-    (cond (f.opcode == 9) (only_if no_d_lem (Jlt a b n))
+    (cond (f.opcode == 1) (only_if (no_a && no_b) (Set d n))
+    (cond (f.opcode == 2) (only_if no_n (Add d a b))
+    (cond (f.opcode == 3) (only_if no_n (Sub d a b))
+    (cond (f.opcode == 4) (only_if no_n (Mean d a b))
+    (cond (f.opcode == 5) (only_if no_b (Load d a n))
+    (cond (f.opcode == 6) (only_if no_d (Store a b n))
+    (cond (f.opcode == 7) (only_if (no_d && no_a && no_b) (Jump n))
+    (cond (f.opcode == 8) (only_if (no_d && no_b) (Jz a n))
+    (cond (f.opcode == 9) (only_if no_d (Jlt a b n))
     (cond (f.opcode == 10) (only_if none Begin)
     (cond (f.opcode == 11) (only_if none End)
     (cond (f.opcode == 12) (only_if none Retry)
     (cond (f.opcode == 13) (only_if none Early)
-    (cond (f.opcode == 14) (only_if (no_d_lem && no_b_lem && nat_lt n.value 256) (Out a (channel_of n.value)))
+    (cond (f.opcode == 14) (only_if (no_d && no_b && nat_lt n.value 256) (Out a (channel_of n.value)))
     (Err UnknownOpcode)))))))))))))))
 
 -- an instruction's word, and what a word unpacks to
