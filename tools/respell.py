@@ -3,9 +3,10 @@
 
 usage: respell.py [--dry-run]      at the top of the repository
 
-A name is turned where it is declared at the head of a line in an .antt file, or a step in, and begins with a small
+A name is turned where it is declared at the head of a line in an .antt file, or further in, and begins with a small
 letter: `programAt` and `program-at` become `program_at`. Names of types and of facts, which begin with a capital,
-variants, names that the check asks for (`loop-i-preserved : goal.loop-i-preserved`), functions of src/, strings and prose keep their spelling.
+variants, names that the check asks for (`loop-i-preserved : goal.loop-i-preserved`), functions of src/, strings and prose
+keep their spelling.
 It stops, and writes nothing, where two names would fall together.
 """
 
@@ -20,6 +21,8 @@ CHOSEN = {
     "allWritten": "all_written",
     "all-written": "all_written_lem",
     "byState": "step_by_state",
+    "faultsKept": "faults_kept",
+    "faults-kept": "faults_kept_lem",
     "heldRead": "held_read",
     "held-read": "held_read_lem",
     "ifFree": "if_free",
@@ -36,7 +39,7 @@ CHOSEN = {
 }
 
 HEAD = re.compile(r"^(?:abbrev |unfoldable )?(?:pub )?(?:abbrev )?([^\s:=]+(?: +[^\s:=]+)*) :(?:\s+(.*)|$)")
-FIELD = re.compile(r"^  (?:pub )?((?!let |in )[a-z][^\s:=]*(?: +[a-z][^\s:=]*)*) : ")
+FIELD = re.compile(r"^ {2,}(?:pub )?((?!let |in )[a-z][^\s:=]*(?: +[a-z][^\s:=]*)*) :(?:\s|$)")
 LOOSE = ("use ", "pub use ", "mod ", "pub mod ", "unfolding ", "data ", "pub data ", "record ", "pub record ", "infix", "--")
 TOKEN = re.compile(r"[A-Za-z_][A-Za-z0-9_'₀-₉ℓℕℤ]*(?:[-][A-Za-z0-9_'*+≤<≡ℕℤ][A-Za-z0-9_'*+≤<≡ℕℤ]*)*")
 # What a definition's name could be taken for: in antt any word that is no part of a path, in code what a clause can name, a

@@ -74,10 +74,10 @@ impl From<AllocError> for ParseError {
     }
 }
 
-impl From<AllocFailed<u32>> for ParseError {
+impl<T: Drop> From<AllocFailed<T>> for ParseError {
     ghost from_gives = { λ _ r. r ≡ NoMemory };
 
-    fn from(_refused: AllocFailed<u32>) -> ParseError {
+    fn from(_refused: AllocFailed<T>) -> ParseError {
         ParseError::NoMemory
     }
 }

@@ -23,11 +23,11 @@ pub core_put : (cores : List Core) (n i : ℕ) (c : Core) → i < n → map core
 core_put cores n i c h = ap (map core_of) (take_put cores n i c h) ∙ map-set core_of (take n cores) i c
   where
     take_put : (cores : List Core) (n i : ℕ) (c : Core) → i < n → take n (set cores i c) ≡ set (take n cores) i c
-    take_put [] n i c h = nil-put n i c
+    take_put [] n i c h = nil_put n i c
       where
-        nil-put : (n i : ℕ) (c : Core) → take n (set [] i c) ≡ set (take n []) i c
-        nil-put zero i c = refl
-        nil-put (suc n) i c = refl
+        nil_put : (n i : ℕ) (c : Core) → take n (set [] i c) ≡ set (take n []) i c
+        nil_put zero i c = refl
+        nil_put (suc n) i c = refl
     take_put (d ∷ cores) zero i c h = absurd (omega arith)
     take_put (d ∷ cores) (suc n) zero c h = refl
     take_put (d ∷ cores) (suc n) (suc i) c h = ap (λ l. d ∷ l) (take_put cores n i c (le_of_suc-le-suc h))

@@ -26,7 +26,7 @@ use Rattle.laws.proofs.Invariant.{Good, Booked, Shared, SentIs, HeldIs, Inv}
 use Rattle.laws.proofs.Keeps.{InvAfter, other_still, free_core}
 use Rattle.laws.proofs.Plain.{stopped, aborted, bypass}
 use Rattle.laws.proofs.Transaction.{transaction}
-use Rattle.laws.proofs.Holder.{commit, early_flush, early-commit}
+use Rattle.laws.proofs.Holder.{commit, early_flush, early_commit}
 
 -- a step, by the core's state
 state_kept :
@@ -38,7 +38,7 @@ state_kept Commit e j h i b st = commit e j h i b (asks e.program (core_at e i).
 state_kept Abort e j h i b st = aborted e j h i b (asks e.program (core_at e i).place) st
 state_kept EarlyFlush e j h i b st = early_flush e j h i b (asks e.program (core_at e i).place) st
 state_kept EarlyCommit e j h i b st =
-    early-commit e j h i b (asks e.program (core_at e i).place) st (inner_at e.program (length e.memory) (core_at e i).place (core_at e i).depth (core_at e i).count) refl
+    early_commit e j h i b (asks e.program (core_at e i).place) st (inner_at e.program (length e.memory) (core_at e i).place (core_at e i).depth (core_at e i).count) refl
 state_kept Stopped e j h i b st = stopped e j h i b (asks e.program (core_at e i).place) st
 
 -- a step that is not refused
@@ -64,19 +64,19 @@ advanced_kept (Ok a) e j h = record {
   size = h.size;
   good = h.good;
   booked = h.booked;
-  shared = next-shared e.token h.shared;
-  held = next-held e.token h.held;
+  shared = next_shared e.token h.shared;
+  held = next_held e.token h.held;
 }
   where
-    next-shared : (t : Token) → Shared t e j h.now → Shared t (advanced (Ok a) e) j h.now
-    next-shared Free w = w
-    next-shared (CoreHas k) w = w
-    next-shared Host w = w
+    next_shared : (t : Token) → Shared t e j h.now → Shared t (advanced (Ok a) e) j h.now
+    next_shared Free w = w
+    next_shared (CoreHas k) w = w
+    next_shared Host w = w
 
-    next-held : (t : Token) → HeldIs t e j → HeldIs t (advanced (Ok a) e) j
-    next-held Free w = w
-    next-held (CoreHas k) w = w
-    next-held Host w = w
+    next_held : (t : Token) → HeldIs t e j → HeldIs t (advanced (Ok a) e) j
+    next_held Free w = w
+    next_held (CoreHas k) w = w
+    next_held Host w = w
 advanced_kept (Err r) e j h = h
 
 -- turn
@@ -147,22 +147,22 @@ take_kept (x ∷ xs) e j w h = record {
   size = h.size;
   good = h.good;
   booked = h.booked;
-  shared = taken-shared e.token h.shared;
-  held = taken-held e.token h.held;
+  shared = taken_shared e.token h.shared;
+  held = taken_held e.token h.held;
 }
   where
     moved : (s : List SentEntry) → SentIs e j s → (j.taken ++ x ∷ []) ++ xs ≡ j.waiting ++ s
     moved s p = append_assoc j.taken (x ∷ []) xs ∙ ap (λ l. j.taken ++ l) (sym w) ∙ p
 
-    taken-shared : (t : Token) → Shared t e j h.now → Shared t (take_from (x ∷ xs) e).engine (note e (take_event (Ok x)) j) h.now
-    taken-shared Free p = (p.0, moved h.now.sent p.1)
-    taken-shared (CoreHas k) p = (p.0, p.1, moved p.0 p.2)
-    taken-shared Host p = (p.0, moved h.now.sent p.1)
+    taken_shared : (t : Token) → Shared t e j h.now → Shared t (take_from (x ∷ xs) e).engine (note e (take_event (Ok x)) j) h.now
+    taken_shared Free p = (p.0, moved h.now.sent p.1)
+    taken_shared (CoreHas k) p = (p.0, p.1, moved p.0 p.2)
+    taken_shared Host p = (p.0, moved h.now.sent p.1)
 
-    taken-held : (t : Token) → HeldIs t e j → HeldIs t (take_from (x ∷ xs) e).engine (note e (take_event (Ok x)) j)
-    taken-held Free p = tt
-    taken-held (CoreHas k) p = tt
-    taken-held Host p = p
+    taken_held : (t : Token) → HeldIs t e j → HeldIs t (take_from (x ∷ xs) e).engine (note e (take_event (Ok x)) j)
+    taken_held Free p = tt
+    taken_held (CoreHas k) p = tt
+    taken_held Host p = p
 
 -- every call
 call_kept : (e : Engine) (j : Journal) (h : Inv e j) (c : Call) → Inv (played e c) (note e (event e c) j)

@@ -66,13 +66,13 @@ module _ (e : Engine) (j : Journal) (h : Inv e j) (i : ℕ) (b : i < length e.co
   freed_own own = rw (own, eq-eqb i i refl) refl
 
   -- the core finishes and frees the token
-  finish-own :
+  finish_own :
       (c' : Core) (x : Effect) (mark : Mark) (n : ℕ) (answer : Answer) (own : e.token ≡ CoreHas i) →
       (u : UnitIs e j h i mark n c') → u.machine.memory ≡ memory_after x e.memory →
       SentIs (change e i (finishes (view_of e i) c' x mark n answer)) j u.machine.sent →
       Good c'.state e.program (memory_after x e.memory) (freed e.token i) i c' → Booked c'.state (own_book (touch ask) answer (books j.moves i)) c' →
       InvAfter e j i ask (finishes (view_of e i) c' x mark n answer)
-  finish-own c' x mark n answer own u m s g k =
+  finish_own c' x mark n answer own u m s g k =
       finish_free e j h i b ask c' x mark n answer (own_quiet x e.token (freed e.token i) i own) (freed_own own) u
       (ap length m ∙ length_after x e.memory) m s g k
 
@@ -84,14 +84,14 @@ module _ (e : Engine) (j : Journal) (h : Inv e j) (i : ℕ) (b : i < length e.co
   held_more own r d = rw ((mine own).1.alone, length_overlay c.lines e.memory, d) refl
 
   -- the block ends with a last effect that writes what is still dirty
-  ends-own :
+  ends_own :
       (x : Effect) (own : e.token ≡ CoreHas i) → settled_place c.state c ≡ c.saved → settled_stopped c.state ≡ false →
       inner_at e.program (length e.memory) c.place c.depth c.count ≡ Closes →
       overlay c.lines e.memory ≡ memory_after x e.memory → outlet_after x e.outlet ≡ e.outlet →
       InvAfter e j i ask (ends (view_of e i) c x)
-  ends-own x own place alive d m o =
+  ends_own x own place alive d m o =
       let c' = resting Bypass (past c.place) c.saved in
-      finish-own c' x Completed (suc c.count) Done own
+      finish_own c' x Completed (suc c.count) Done own
       (record {
         alive = alive;
         machine = machine_with h.now i c' (overlay c.lines e.memory) (mine own).0;
@@ -113,7 +113,7 @@ module _ (e : Engine) (j : Journal) (h : Inv e j) (i : ℕ) (b : i < length e.co
       (record { state = rw (length_after (wrote c.lines) e.memory) d; alone = rw (overlay_left c.lines e.memory) (mine own).1.alone })
       (rw (wrote_sends_nothing c.lines e.outlet) (mine own).2)
       own book)
-      (λ q. ends-own (wrote c.lines) own (rw st refl) (rw st refl) d (all_written_lem c.lines e.memory q) (wrote_sends_nothing c.lines e.outlet))
+      (λ q. ends_own (wrote c.lines) own (rw st refl) (rw st refl) d (all_written_lem c.lines e.memory q) (wrote_sends_nothing c.lines e.outlet))
 
   -- EARLY_FLUSH
   pub early_flush : c.state ≡ EarlyFlush → InvAfter e j i ask (in_early_flush (view_of e i) c)
@@ -162,18 +162,18 @@ module _ (e : Engine) (j : Journal) (h : Inv e j) (i : ℕ) (b : i < length e.co
         (booked_in EarlyCommit (own_book (touch ask) Running (books j.moves i)) (performed c p depth c.lines) st (running_open (touch ask) (books j.moves i) book.0 book.1))
 
     -- the block's run with one more instruction, with no lines left
-    bare-more :
+    bare_more :
         (r : Inner) → inner_at e.program (length e.memory) c.place c.depth c.count ≡ r →
         run e.program (scene c.saved h.now.memory h.now.sent) (suc c.count) ≡ further c.depth (scene c.place e.memory (mine own).0) r
-    bare-more r d = held_more own r d ∙ ap (λ m. further c.depth (scene c.place m (mine own).0) r) (bare e.memory)
+    bare_more r d = held_more own r d ∙ ap (λ m. further c.depth (scene c.place m (mine own).0) r) (bare e.memory)
 
     -- the block faults, and what it wrote and sent stays
-    faults-kept : (f : Fault) (r : Inner) → faults_further (scene c.place (overlay c.lines e.memory) (mine own).0) r ≡ some (scene c.place (overlay c.lines e.memory) (mine own).0) →
+    faults_kept_lem : (f : Fault) (r : Inner) → faults_further (scene c.place (overlay c.lines e.memory) (mine own).0) r ≡ some (scene c.place (overlay c.lines e.memory) (mine own).0) →
         inner_at e.program (length e.memory) c.place c.depth c.count ≡ r →
         InvAfter e j i ask (faulted (view_of e i) c Kept c.count f)
-    faults-kept f r q d =
+    faults_kept_lem f r q d =
         let c' = resting Stopped c.place c.saved in
-        finish-own c' Nothing Kept c.count (Faulted f c.place.pc) own
+        finish_own c' Nothing Kept c.count (Faulted f c.place.pc) own
         (record {
           alive = rw st refl;
           machine = machine_with h.now i c' (overlay c.lines e.memory) (mine own).0;
@@ -183,18 +183,18 @@ module _ (e : Engine) (j : Journal) (h : Inv e j) (i : ℕ) (b : i < length e.co
         (bare e.memory) (mine own).2 tt refl
 
     -- a step, by what the instruction comes to
-    pub early-commit :
+    pub early_commit :
         (r : Inner) → inner_at e.program (length e.memory) c.place c.depth c.count ≡ r →
         InvAfter e j i ask (in_early_commit (view_of e i) c r)
-    early-commit (InnerFaults f) d = faults-kept f (InnerFaults f) refl d
-    early-commit (InnerMoves p depth) d = performs p depth Nothing (mine own).0 (bare-more (InnerMoves p depth) d) (mine own).2
-    early-commit (InnerLoads a k) d = performs (onward c.place (k (get_or e.memory a 0))) c.depth Nothing (mine own).0 (bare-more (InnerLoads a k) d) (mine own).2
-    early-commit (InnerStores a w) d = performs (past c.place) c.depth (Wrote a w) (mine own).0 (bare-more (InnerStores a w) d) (mine own).2
-    early-commit (InnerSends y) d =
+    early_commit (InnerFaults f) d = faults_kept_lem f (InnerFaults f) refl d
+    early_commit (InnerMoves p depth) d = performs p depth Nothing (mine own).0 (bare_more (InnerMoves p depth) d) (mine own).2
+    early_commit (InnerLoads a k) d = performs (onward c.place (k (get_or e.memory a 0))) c.depth Nothing (mine own).0 (bare_more (InnerLoads a k) d) (mine own).2
+    early_commit (InnerStores a w) d = performs (past c.place) c.depth (Wrote a w) (mine own).0 (bare_more (InnerStores a w) d) (mine own).2
+    early_commit (InnerSends y) d =
         cond_both (ltb 0 e.outlet.room) (acts (view_of e i) (performed c (past c.place) c.depth c.lines) (Sent y) Running) (becomes (view_of e i) c Full) (InvAfter e j i ask)
-        (λ _. performs (past c.place) c.depth (Sent y) ((mine own).0 ++ y ∷ []) (bare-more (InnerSends y) d)
+        (λ _. performs (past c.place) c.depth (Sent y) ((mine own).0 ++ y ∷ []) (bare_more (InnerSends y) d)
         (one_more_sent j.taken e.outlet.waiting j.waiting (mine own).0 y (mine own).2))
         (λ _. go_on e j h i b ask c Nothing Full own refl (mine own).0 (mine own).1 (mine own).2 (h.good i) (h.booked i))
-    early-commit Closes d = ends-own Nothing own (rw st refl) (rw st refl) d (bare e.memory) refl
-    early-commit Restarts d = faults-kept RetryAfterEarly Restarts refl d
-    early-commit TakesToken d = performs (past c.place) c.depth Nothing (mine own).0 (bare-more TakesToken d) (mine own).2
+    early_commit Closes d = ends_own Nothing own (rw st refl) (rw st refl) d (bare e.memory) refl
+    early_commit Restarts d = faults_kept_lem RetryAfterEarly Restarts refl d
+    early_commit TakesToken d = performs (past c.place) c.depth Nothing (mine own).0 (bare_more TakesToken d) (mine own).2

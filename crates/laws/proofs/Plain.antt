@@ -71,20 +71,20 @@ module _ (e : Engine) (j : Journal) (h : Inv e j) (i : ℕ) (b : i < length e.co
   not_i w = subst (λ s. Holder s e.program e.memory (core_at e i)) st w
 
   -- a plain instruction that neither reads, writes nor sends
-  plain-aside :
+  plain_aside :
       (s : State) (p : Place) → Good s e.program e.memory (freed e.token i) i (resting s p (core_at e i).saved) →
       Booked s (own_book (touch ask) Done (books j.moves i)) (resting s p (core_at e i).saved) →
       (u : UnitIs e j h i Completed 1 (resting s p (core_at e i).saved)) → u.machine.memory ≡ h.now.memory → u.machine.sent ≡ h.now.sent →
       InvAfter e j i ask (plain (view_of e i) (core_at e i) s p Nothing)
-  plain-aside s p g k u m n = finish_aside e j h i b ask (resting s p (core_at e i).saved) Completed 1 Done not_i u m n g k
+  plain_aside s p g k u m n = finish_aside e j h i b ask (resting s p (core_at e i).saved) Completed 1 Done not_i u m n g k
 
   -- a plain instruction with the token free
-  plain-free :
+  plain_free :
       (p : Place) (x : Effect) → e.token ≡ Free →
       (u : UnitIs e j h i Completed 1 (resting Bypass p (core_at e i).saved)) → u.machine.memory ≡ memory_after x e.memory → length u.machine.memory ≡ length e.memory →
       SentIs (change e i (plain (view_of e i) (core_at e i) Bypass p x)) j u.machine.sent →
       InvAfter e j i ask (plain (view_of e i) (core_at e i) Bypass p x)
-  plain-free p x f u m l n =
+  plain_free p x f u m l n =
       finish_free e j h i b ask (resting Bypass p (core_at e i).saved) x Completed 1 Done
       (free_quiet x e.token (freed e.token i) i f) (rw f refl) u l m n tt refl
 
@@ -96,7 +96,7 @@ module _ (e : Engine) (j : Journal) (h : Inv e j) (i : ℕ) (b : i < length e.co
       refl refl tt refl
   bypass (OuterMoves p) d =
       let c' = resting Bypass p (core_at e i).saved in
-      plain-aside Bypass p tt refl
+      plain_aside Bypass p tt refl
       (record { alive = rw st refl; machine = machine_with h.now i c' h.now.memory h.now.sent; is = rw (st, h.size, d) refl; cores = refl })
       refl refl
   bypass (OuterLoads a k) d =
@@ -105,7 +105,7 @@ module _ (e : Engine) (j : Journal) (h : Inv e j) (i : ℕ) (b : i < length e.co
       if_free_lem e.token e j i ask (plain (view_of e i) (core_at e i) Bypass p Nothing) (becomes (view_of e i) (core_at e i) Waiting) refl
       (λ f.
       let w = when_free e j h f in
-      plain-free p Nothing f
+      plain_free p Nothing f
       (record { alive = rw st refl; machine = machine_with h.now i c' e.memory h.now.sent; is = rw (st, w.0, d) refl; cores = refl })
       refl refl w.1)
       (waits e j h i b ask not_i)
@@ -115,7 +115,7 @@ module _ (e : Engine) (j : Journal) (h : Inv e j) (i : ℕ) (b : i < length e.co
       if_free_lem e.token e j i ask (plain (view_of e i) (core_at e i) Bypass p (Wrote a v)) (becomes (view_of e i) (core_at e i) Waiting) refl
       (λ f.
       let w = when_free e j h f in
-      plain-free p (Wrote a v) f
+      plain_free p (Wrote a v) f
       (record { alive = rw st refl; machine = machine_with h.now i c' (set e.memory a v) h.now.sent; is = rw (st, w.0, d) refl; cores = refl })
       refl (length-set e.memory a v) w.1)
       (waits e j h i b ask not_i)
@@ -126,7 +126,7 @@ module _ (e : Engine) (j : Journal) (h : Inv e j) (i : ℕ) (b : i < length e.co
       (λ f.
       let w = when_free e j h f in
       cond_both (ltb 0 e.outlet.room) (plain (view_of e i) (core_at e i) Bypass p (Sent y)) (becomes (view_of e i) (core_at e i) Full) (InvAfter e j i ask)
-      (λ _. plain-free p (Sent y) f
+      (λ _. plain_free p (Sent y) f
       (record { alive = rw st refl; machine = machine_with h.now i c' e.memory (h.now.sent ++ y ∷ []); is = rw (st, w.0, d) refl; cores = refl })
       refl refl (one_more_sent j.taken e.outlet.waiting j.waiting h.now.sent y w.1))
       (λ _. only_core e j h i b ask (core_at e i) Full not_i refl (h.good i) (h.booked i)))
@@ -139,6 +139,6 @@ module _ (e : Engine) (j : Journal) (h : Inv e j) (i : ℕ) (b : i < length e.co
       (rw (booked_bypass e j h i st) (record { is_open = refl; hit = refl; taken = λ a. refl; touched = λ a. refl }))
   bypass Stops d =
       let c' = resting Stopped (past (core_at e i).place) (core_at e i).saved in
-      plain-aside Stopped (past (core_at e i).place) tt refl
+      plain_aside Stopped (past (core_at e i).place) tt refl
       (record { alive = rw st refl; machine = machine_with h.now i c' h.now.memory h.now.sent; is = rw (st, h.size, d) refl; cores = refl })
       refl refl

@@ -53,11 +53,11 @@ module _ (e : Engine) (j : Journal) (h : Inv e j) (i : ℕ) (b : i < length e.co
   alone_now f = rw (when_free e j h f).0 (follows.alone e.memory h.now.sent refl (λ a t. refl))
 
   -- one more instruction alone, on a memory that agrees
-  alone-more :
+  alone_more :
       (r : Inner) → inner_at e.program (length e.memory) c.place c.depth c.count ≡ r →
       (m' : List ℕ) (s : List SentEntry) → length m' ≡ length e.memory → Agree c.lines e.memory m' →
       run e.program (scene c.saved m' s) (suc c.count) ≡ further c.depth (scene c.place (overlay c.lines m') s) r
-  alone-more r d m' s n agree = rw (follows.alone m' s n agree, length_overlay c.lines m', n, d) refl
+  alone_more r d m' s n agree = rw (follows.alone m' s n agree, length_overlay c.lines m', n, d) refl
 
   -- the core has performed an instruction of its block
   runs_on :
@@ -116,7 +116,7 @@ module _ (e : Engine) (j : Journal) (h : Inv e j) (i : ℕ) (b : i < length e.co
         machine = machine_with h.now i c' (overlay c.lines h.now.memory) h.now.sent;
         is = ap (λ p. unit e.program h.now i Completed (suc c.count) (run e.program (scene p h.now.memory h.now.sent) (suc c.count))) saved_place
             ∙ ap (λ r. unit e.program h.now i Completed (suc c.count) r)
-            (alone-more Closes d h.now.memory h.now.sent h.size (λ a t. ap (λ m. get_or m a 0) (when_free e j h q).0));
+            (alone_more Closes d h.now.memory h.now.sent h.size (λ a t. ap (λ m. get_or m a 0) (when_free e j h q).0));
         cores = refl;
       })
       (length_overlay c.lines h.now.memory ∙ h.size)
@@ -127,7 +127,7 @@ module _ (e : Engine) (j : Journal) (h : Inv e j) (i : ℕ) (b : i < length e.co
   moves : (p : Place) (depth : ℕ) → Comes (InnerMoves p depth) → InvAfter e j i ask (in_transaction (view_of e i) c (InnerMoves p depth))
   moves p depth d =
       runs_on p depth c.lines
-      (record { fit = follows.fit; alone = λ m' s n agree. alone-more (InnerMoves p depth) d m' s n agree })
+      (record { fit = follows.fit; alone = λ m' s n agree. alone_more (InnerMoves p depth) d m' s n agree })
       (rw (decoded e.program (length e.memory) c.place c.depth c.count (InnerMoves p depth) d)
       (record { is_open = tracks.is_open; hit = tracks.hit; taken = tracks.taken; touched = tracks.touched }))
 
@@ -139,7 +139,7 @@ module _ (e : Engine) (j : Journal) (h : Inv e j) (i : ℕ) (b : i < length e.co
       (record {
         fit = follows.fit;
         alone = λ m' s n agree.
-            alone-more (InnerLoads a k) d m' s n agree
+            alone_more (InnerLoads a k) d m' s n agree
             ∙ ap (λ w. Inside c.depth (scene (onward c.place (k w)) (overlay c.lines m') s)) (get_or_overlay c.lines m' a (fit_agree c.lines e.memory m' follows.fit n agree) held);
       })
       (rw ((decoded e.program (length e.memory) c.place c.depth c.count (InnerLoads a k) d).0, tracks.touched a ∙ held)
@@ -158,7 +158,7 @@ module _ (e : Engine) (j : Journal) (h : Inv e j) (i : ℕ) (b : i < length e.co
         alone = λ m' s n agree.
             let old : Agree c.lines e.memory m' = λ q tag. agree q (tagged_append c.lines l q ∙ or_right (eqb a q && true) (tagged c.lines q) tag) in
             let here : get_or m' a 0 ≡ w = agree a (tagged_append c.lines l a ∙ or_left (eqb a a && true) (tagged c.lines a) (rw (eq-eqb a a refl) refl)) in
-            alone-more (InnerLoads a k) d m' s n old
+            alone_more (InnerLoads a k) d m' s n old
             ∙ ap (λ x. Inside c.depth (scene (onward c.place (k x)) (overlay c.lines m') s)) (get_or_overlay_other c.lines m' a absent ∙ here)
             ∙ ap (λ x. Inside c.depth (scene (onward c.place (k w)) x s)) (sym (overlay_append c.lines l m'));
       })
@@ -180,7 +180,7 @@ module _ (e : Engine) (j : Journal) (h : Inv e j) (i : ℕ) (b : i < length e.co
         fit = fit_store_at c.lines a w e.memory follows.fit;
         alone = λ m' s n agree.
             let old : Agree c.lines e.memory m' = λ q tag. agree q (tagged_store_at c.lines a w q ∙ tag) in
-            alone-more (InnerStores a w) d m' s n old
+            alone_more (InnerStores a w) d m' s n old
             ∙ ap (λ x. Inside c.depth (scene (past c.place) x s)) (sym (overlay_store_at c.lines m' a w (fit_agree c.lines e.memory m' follows.fit n old) held));
       })
       (rw t.0
@@ -205,7 +205,7 @@ module _ (e : Engine) (j : Journal) (h : Inv e j) (i : ℕ) (b : i < length e.co
         fit = fit_append c.lines l e.memory follows.fit (record { inside = t.1; clean = λ dirty. absurd (true≢false dirty) }) absent;
         alone = λ m' s n agree.
             let old : Agree c.lines e.memory m' = λ q tag. agree q (tagged_append c.lines l q ∙ or_right (eqb a q && false) (tagged c.lines q) tag) in
-            alone-more (InnerStores a w) d m' s n old
+            alone_more (InnerStores a w) d m' s n old
             ∙ ap (λ x. Inside c.depth (scene (past c.place) x s)) (sym (overlay_append c.lines l m'));
       })
       (rw t.0
