@@ -5,8 +5,8 @@ usage: respell.py [--dry-run]      at the top of the repository
 
 A name is turned where it is declared at the head of a line in an .antt file, or further in, and begins with a small
 letter: `programAt` and `program-at` become `program_at`. Names of types and of facts, which begin with a capital,
-variants, names that the check asks for (`loop-i-preserved : goal.loop-i-preserved`), functions of src/, strings and prose
-keep their spelling.
+variants, names that the check asks for (`loop-i-preserved : goal.loop-i-preserved`), functions of src/, strings, and
+names with a dash in prose keep their spelling.
 It stops, and writes nothing, where two names would fall together.
 """
 
