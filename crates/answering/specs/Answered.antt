@@ -1,6 +1,6 @@
 -- What a command to an engine does to it, and the text of its answer.
 --   engine_after  the engine after a command
---   Told         the text; only the order of tags is left free
+--   Told          the text; only the order of tags is left free
 -- Assumes nothing.
 use Rattle.std.specs.Prelude.{◌≡◌, ℕ, ◌+◌, ◌*◌, List, ◌++◌, take, replicate, Ok, Err, codes, decimal, Result}
 use Rattle.answers.specs.declared.refusal.NothingWaits.{NothingWaits}

@@ -1,2 +1,1 @@
 pub mod Played
-pub mod Tokens

@@ -1,7 +1,7 @@
 -- Playing over bytes: what program, settings and memory are accepted, and what a host is told.
 --   accepted     the program, or the first refusal;  new_engine  the engine that is made
 --   told         how many calls were played, or the refusal;  answers_after  the bytes for answers
---   result_code   what is told, as one number
+--   result_code  what is told, as one number
 -- Assumes nothing.
 use Rattle.std.specs.Prelude.{◌≡◌, ℕ, ◌+◌, ◌*◌, ◌/◌, ◌%◌, List, [], length, Ok, Err, Result}
 use Rattle.answers.specs.declared.refusal.ProgramRefusal.{ProgramRefusal}

@@ -1,6 +1,6 @@
 -- What an instruction asks for, in the code's own form: a load names its register in place of the registers that follow.
---   ask_of    an Ask of the code as the model's, at a place
---   Onward   where an Ask leads stays inside a program of 512 instructions
+--   ask_of  an Ask of the code as the model's, at a place
+--   Onward  where an Ask leads stays inside a program of 512 instructions
 -- Assumes nothing.
 use Rattle.std.specs.Prelude.{◌<◌, ◌≤◌}
 use Rattle.model.specs.declared.place.Place.{Place}

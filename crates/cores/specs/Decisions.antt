@@ -1,8 +1,8 @@
 -- What an instruction comes to outside and inside a block, in the code's own form.
---   outer_of, inner_of        the model's, at a place
---   block_fault              the fault of an instruction inside a block
---   OnwardOuter             where it leads stays inside a program of 512 instructions
---   OnwardInner             the same, and the block has not performed 4,096 instructions yet
+--   outer_of, inner_of  the model's, at a place
+--   block_fault         the fault of an instruction inside a block
+--   OnwardOuter         where it leads stays inside a program of 512 instructions
+--   OnwardInner         the same, and the block has not performed 4,096 instructions yet
 -- Assumes nothing.
 use Rattle.std.specs.Prelude.{ℕ, ◌<◌, ◌≤◌, cond, Some, None, Option, nat_lt}
 use Rattle.answers.specs.declared.answer.Fault.{Fault}

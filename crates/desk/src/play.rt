@@ -4,8 +4,8 @@ ghost use Rattle.model.specs.Engine.{make};
 ghost use Rattle.model.specs.Runs.{replies as model_replies};
 ghost use Rattle.model.specs.Journal.{history};
 ghost use Rattle.model.specs.Laws.{Lawful};
-ghost use Rattle.engine.specs.Engines.{outlet_of, settings_of};
-ghost use Rattle.desk.specs.Desks.{desk_engine, playable};
+ghost use Rattle.engine.specs.Engines.{outlet_of, settings_of, playable};
+ghost use Rattle.desk.specs.Desks.{desk_engine};
 
 use crate::desk::Desk;
 use memory::shared::Memory;

@@ -4,3 +4,4 @@ pub mod Rooms
 pub mod Applying
 pub mod Refusing
 pub mod Playing
+pub mod Tokens

@@ -1,9 +1,9 @@
 -- An engine of the code as the model's, and the answers that carry a pass.
---   engine_of              the engine
---   settings_of            what it is made from
---   host_has               whether the host has the token
---   playable              the calls of a list that are played
---   held_as, given_as       a hold's and a giving back's answer, the pass left out
+--   engine_of          the engine
+--   settings_of        what it is made from
+--   host_has           whether the host has the token
+--   playable           the calls of a list that are played
+--   held_as, given_as  a hold's and a giving back's answer, the pass left out
 -- Assumes nothing.
 use Rattle.std.specs.Prelude.{ℕ, Bool, true, false, List, length, take, Ok, Err, Result}
 use Rattle.memory.specs.declared.shared.Memory.{Ghosts as MemoryGhosts}

@@ -1,6 +1,6 @@
 -- A step of the engine in two parts: one core moves, and then the rest of the engine takes what it came to.
---   scene_of    what the step sees;  with_core  the engine once the core has moved;  Moved  what the move came to
---   applied    the engine once it has taken the effect, the token and the entry
+--   scene_of  what the step sees;  with_core  the engine once the core has moved;  Moved  what the move came to
+--   applied   the engine once it has taken the effect, the token and the entry
 -- Assumes nothing.
 use Rattle.std.specs.Prelude.{◌≡◌, ℕ, List, length, replicate, slice_index, slice_set}
 use Rattle.memory.specs.Shared.{written}

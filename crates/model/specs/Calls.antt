@@ -1,5 +1,5 @@
 -- The calls of the engine: the questions in their order, what each answers, and the engine afterwards.
---   step, turn                     a core moves
+--   step, turn                      a core moves
 --   clear, hold, read, give_back    the record is emptied, and the host's hold
 --   take_oldest, entry, Tags, look  outlet, record, tags, and what people see
 -- Assumes nothing.

@@ -1,7 +1,7 @@
 -- The write buffer of a core: lines in the order in which they were made.
---   holds     is there a line at an address?  value_at  its value;  tagged  is it tagged?
+--   holds      is there a line at an address?  value_at  its value;  tagged  is it tagged?
 --   store_at   the line at an address takes a value and becomes dirty
---   tags      the tagged addresses;  Distinct  no two lines are at one address
+--   tags       the tagged addresses;  Distinct  no two lines are at one address
 --   any_dirty  is a line dirty?  wrote  the write of the oldest dirty line;  left  the lines after it
 -- Assumes nothing.
 use Rattle.std.specs.Prelude.{◌≡◌, ℕ, Bool, true, false, cond, ◌&&◌, ◌||◌, List, [], ◌∷◌, ◌==◌}

@@ -1,8 +1,8 @@
 -- Runs: a list of calls, each acting on what those before it left, and what an observer sees of each.
---   reply, played    what a call answers, and the engine after it
---   Event, event     what an observer sees of a call
---   memory_seen, sent_in, taken_in    what an event tells of memory and outlet
---   replies, plays   what the calls of a list answer, and the engine after them
+--   reply, played                   what a call answers, and the engine after it
+--   Event, event                    what an observer sees of a call
+--   memory_seen, sent_in, taken_in  what an event tells of memory and outlet
+--   replies, plays                  what the calls of a list answer, and the engine after them
 -- Assumes nothing.
 use Rattle.std.specs.Prelude.{ℕ, List, [], ◌∷◌, Ok, Err, Result}
 use Rattle.answers.specs.declared.answer.Answer.{Answer}

@@ -1,7 +1,7 @@
 use Rattle.std.proofs.Common.{sym, ap, ◌∙◌, rules}
 use Rattle.model.specs.Engine.{Engine as ModelEngine}
 use Rattle.engine.specs.Engines.{engine_of, host_has}
-use Rattle.bench.proofs.Tokens.{step_same, turn_same}
+use Rattle.engine.proofs.Tokens.{step_same, turn_same}
 use Rattle.bench.proofs.desk.perform.Goals as goal
 
 pub returns-in-Step : goal.returns-in-Step
