@@ -12,7 +12,7 @@ import argparse
 import pathlib
 import random
 import sys
-from collections import Counter
+from collections import Counter, namedtuple
 
 from simulator.devices import ByteOutlet, WordMemory
 from simulator.engine import FREE, HOST, Engine
@@ -32,6 +32,10 @@ REFUSALS = {("step", 10): "NoSuchCore", ("step", 11): "RecordFull", ("turn", 10)
             ("turn", 11): "RecordFull", ("clear", 12): "TokenTaken", ("hold", 12): "NotForHost",
             ("read", 13): "NotHeld", ("read", 14): "ReadOutside", ("give_back", 13): "NothingHeld",
             ("take", 15): "(record {})"}
+
+# What a simulator says of a run: each call's answer (a refusal is an exception with its number, an entry a channel and a
+# word), and how the engine stands then; of a core its state, pc, registers, depth, count and number of lines.
+Played = namedtuple("Played", "answers words waiting room token record next cores")
 
 
 # random runs
@@ -135,11 +139,12 @@ def instruction(i):
 
 
 def sent(entry):
-    return f"sent_word (channel_of {entry.channel}) {entry.word}"
+    channel, word = entry
+    return f"sent_word (channel_of {channel}) {word}"
 
 
 def reply(call, answer):
-    if isinstance(answer, Refused):
+    if isinstance(answer, Exception):
         value = f"Err {REFUSALS[call, answer.number]}"
     elif call in ("step", "turn"):
         if answer.startswith("faulted"):
@@ -157,12 +162,12 @@ def reply(call, answer):
 
 
 def look(core):
-    registers = listed(core.registers)
-    return f"look_of {STATES[core.state.name]} {core.pc} {registers} {core.depth} {core.count} {len(core.lines)}"
+    state, pc, registers, *numbers = core
+    return " ".join(["look_of", STATES[state], str(pc), listed(registers), *map(str, numbers)])
 
 
 def token(value):
-    return {FREE: "Free", HOST: "Host"}.get(value) or f"(CoreHas {value})"
+    return value if value in ("Free", "Host") else f"(CoreHas {value})"
 
 
 def play(engine, calls_made):
@@ -176,30 +181,49 @@ def play(engine, calls_made):
     return answers
 
 
-def statement(run, tally):
-    code, places, lines, memory, room, calls_made = run
+def by_simulator(code, places, lines, memory, room, calls_made):
+    """What the simulator of this folder says of a run."""
     engine = Engine(lines, places, code, WordMemory(list(memory)), ByteOutlet(5 * room))
-    answers = play(engine, calls_made)
-    for (call, *_), answer in zip(calls_made, answers):
+    entry = lambda sent_entry: (sent_entry.channel, sent_entry.word)
+    answers = [
+        entry(answer) if call == "take" and not isinstance(answer, Refused) else answer
+        for (call, *_), answer in zip(calls_made, play(engine, calls_made))
+    ]
+    return Played(
+        answers=answers,
+        words=engine.memory.words,
+        waiting=list(map(entry, engine.outlet.entries())),
+        room=engine.outlet.room(),
+        token={FREE: "Free", HOST: "Host"}.get(engine.token, engine.token),
+        record=engine.record,
+        next=engine.next_turn,
+        cores=[(core.state.name, core.pc, core.registers, core.depth, core.count, len(core.lines)) for core in engine.cores],
+    )
+
+
+def statement(run, tally, simulated):
+    code, places, lines, memory, room, calls_made = run
+    played = simulated(*run)
+    for (call, *_), answer in zip(calls_made, played.answers):
         tally[reply(call, answer).split(" (record")[0] if call == "take" else
               " ".join(reply(call, answer).split()[:3])] += 1
-    for entry in engine.record:
-        tally[f"mark {entry.mark}"] += 1
+    for _, mark, _ in played.record:
+        tally[f"mark {mark}"] += 1
     start = f"engine_of {listed(map(instruction, code))} {listed(places)} {lines} {listed(memory)} {room}"
     called = listed(" ".join([CALLS[name], *map(str, arguments)]) for name, *arguments in calls_made)
-    replied = listed(reply(call[0], answer) for call, answer in zip(calls_made, answers))
-    entries = listed(f"entry_of {core} {MARKS[mark]} {count}" for core, mark, count in engine.record)
-    final = (f"final_of {listed(engine.memory.words)} {listed(map(sent, engine.outlet.entries()))} {engine.outlet.room()} "
-             f"{token(engine.token)} {entries} {engine.next_turn} {listed(map(look, engine.cores))}")
+    replied = listed(reply(call[0], answer) for call, answer in zip(calls_made, played.answers))
+    entries = listed(f"entry_of {core} {MARKS[mark]} {count}" for core, mark, count in played.record)
+    final = (f"final_of {listed(played.words)} {listed(map(sent, played.waiting))} {played.room} "
+             f"{token(played.token)} {entries} {played.next} {listed(map(look, played.cores))}")
     return f"    Agrees ({start})\n    {called}\n    {replied}\n    ({final})\n"
 
 
-def texts(seed, count, length, tally):
-    """The two files, by their folder."""
+def texts(seed, count, length, tally, simulated=by_simulator):
+    """The two files, by their folder, as a simulator says."""
     rng = random.Random(seed)
     specs = (TOOLS / "compared.head").read_text() + "\n-- all of them\npub record Compared : Type 0 where\n"
     for number in range(count):
-        specs += f"  pub run{number} :\n{statement(random_run(rng, length), tally)}"
+        specs += f"  pub run{number} :\n{statement(random_run(rng, length), tally, simulated)}"
     fields = "; ".join(f"run{number} = (refl, refl)" for number in range(count))
     proofs = ("-- The definitions compute what the simulator says.\n-- Assumes nothing.\n"
               "use Rattle.std.proofs.Common.{refl}\nuse Rattle.model.specs.Instructions.{asks, outer_at, inner_at}\n"
@@ -224,27 +248,28 @@ def agrees(text, wanted):
     return said(text) == said(wanted) and imports(text) <= imports(wanted)
 
 
-def main():
-    parser = argparse.ArgumentParser(description=__doc__, formatter_class=argparse.RawDescriptionHelpFormatter)
+def main(text=__doc__, simulated=by_simulator, which="the simulator"):
+    parser = argparse.ArgumentParser(description=text, formatter_class=argparse.RawDescriptionHelpFormatter)
     for name in ("seed", "count", "length"):
         parser.add_argument(name, type=int)
     parser.add_argument("--check", action="store_true")
     options = parser.parse_args()
     tally = Counter()
     same = True
-    for folder, text in texts(options.seed, options.count, options.length, tally).items():
+    for folder, text in texts(options.seed, options.count, options.length, tally, simulated).items():
         path = CRATE / folder / "Compared.antt"
         if not options.check:
             path.write_text(text)
         elif not agrees(path.read_text(), text):
             same = False
-            print(f"{path.relative_to(TOOLS.parent)} does not say what the simulator says")
+            print(f"{path.relative_to(TOOLS.parent)} does not say what {which} says")
     if not options.check:
         for kind, times in sorted(tally.items()):
             print(f"{times:6} {kind}")
     elif same:
-        print(f"{options.count} runs in the definitions' crate are those of the simulator")
+        print(f"{options.count} runs in the definitions' crate are those of {which}")
     sys.exit(not same)
 
 
-main()
+if __name__ == "__main__":
+    main()
