@@ -11,7 +11,6 @@ use Rattle.answers.specs.declared.refusal.ListRefusal.TheVariants.{Outside, Entr
 use Rattle.answers.specs.declared.refusal.OutsideList.{OutsideList}
 use Rattle.answers.specs.declared.refusal.OutsideMemory.{OutsideMemory}
 use Rattle.answers.specs.declared.refusal.NothingWaits.{NothingWaits}
-use Rattle.answers.specs.declared.refusal.ProgramRefusal.{ProgramRefusal}
 use Rattle.answers.specs.declared.refusal.ProgramFault.{ProgramFault}
 use Rattle.answers.specs.declared.refusal.ProgramFault.TheVariants.{ByteCount, Instruction, TargetOutside, NoEnd}
 
@@ -45,6 +44,14 @@ outside_memory_number r = 14
 
 abbrev pub nothing_waits_number : NothingWaits → ℕ
 nothing_waits_number r = 15
+
+-- a program that is not accepted, at the instruction that says so
+abbrev pub ProgramRefusal : Type 0
+ProgramRefusal = Placed ProgramFault
+
+-- a fault at a place, by the fault
+abbrev pub placed_number : {F : Type 0} → (F → ℕ) → Placed F → ℕ
+placed_number number p = number p.fault
 
 -- a program that is not accepted, by its fault
 abbrev pub program_refusal_number : ProgramRefusal → ℕ

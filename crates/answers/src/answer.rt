@@ -2,21 +2,21 @@
 ghost use Rattle.std.specs.Prelude.{◌≡◌};
 ghost use Rattle.answers.specs.Answers.{fault_number, answer_number};
 
-// Why a core was stopped at an instruction.
+// Why a core was stopped at an instruction, with its number.
 #[derive(Clone, Copy, PartialEq, Eq, Debug)]
 pub enum Fault {
     // the address lies outside the memory
-    AddressOutside,
+    AddressOutside = 1,
     // END, RETRY or EARLY with no open block
-    NoOpenBlock,
+    NoOpenBlock = 2,
     // BEGIN with 255 BEGINs open
-    TooDeep,
+    TooDeep = 3,
     // the block has performed 4,096 instructions already
-    TooLong,
+    TooLong = 4,
     // HALT inside a block
-    HaltInBlock,
+    HaltInBlock = 5,
     // RETRY after the block took the token early
-    RetryAfterEarly,
+    RetryAfterEarly = 6,
 }
 
 impl Fault {
@@ -24,14 +24,7 @@ impl Fault {
     pub fn number(self) -> u8
         ensures { result ≡ fault_number self }
     {
-        match self {
-            Fault::AddressOutside => 1,
-            Fault::NoOpenBlock => 2,
-            Fault::TooDeep => 3,
-            Fault::TooLong => 4,
-            Fault::HaltInBlock => 5,
-            Fault::RetryAfterEarly => 6,
-        }
+        self as u8
     }
 }
 

@@ -1,6 +1,6 @@
 // Why a call was refused: each case is a question that was answered with no.
 ghost use Rattle.std.specs.Prelude.{◌≡◌, ℕ};
-ghost use Rattle.answers.specs.Refusals.{instruction_number, entry_number, program_number, list_number, program_refusal_number, outside_list_number, outside_memory_number, nothing_waits_number, placed_fault, program_refusal};
+ghost use Rattle.answers.specs.Refusals.{instruction_number, entry_number, program_number, list_number, placed_number, outside_list_number, outside_memory_number, nothing_waits_number, placed_fault, program_refusal};
 ghost use Rattle.answers.specs.declared.refusal.ListRefusal.TheVariants.{Entry};
 
 // The questions that one call each asks.
@@ -22,16 +22,16 @@ pub trait Refusal {
 #[derive(Clone, Copy, PartialEq, Eq, Debug)]
 pub enum InstructionFault {
     // the opcode is none of 0 to 14
-    UnknownOpcode,
+    UnknownOpcode = 2,
     // a field that the instruction does not name is not zero, or OUT's channel is above 255
-    BadField,
+    BadField = 3,
 }
 
 // A record entry that does not unpack.
 #[derive(Clone, Copy, PartialEq, Eq, Debug)]
 pub enum EntryFault {
     // mark above 2, a spare bit set, or a count above 4,096
-    OutOfRange,
+    OutOfRange = 18,
 }
 
 // A program that is not accepted.
@@ -67,12 +67,8 @@ pub enum ListRefusal<F> {
 #[derive(Clone, Copy, PartialEq, Eq, Debug)]
 pub struct OutsideList;
 
-// A program that is not accepted, and the number of the instruction that says so.
-#[derive(Clone, Copy, PartialEq, Eq, Debug)]
-pub struct ProgramRefusal {
-    pub fault: ProgramFault,
-    pub place: usize,
-}
+// A program that is not accepted, at the instruction that says so.
+pub type ProgramRefusal = Placed<ProgramFault>;
 
 // The address is not below the memory's length.
 #[derive(Clone, Copy, PartialEq, Eq, Debug)]
@@ -90,10 +86,7 @@ impl Refusal for InstructionFault {
     ghost number = { instruction_number };
 
     fn number(&self) -> u8 {
-        match self {
-            InstructionFault::UnknownOpcode => 2,
-            InstructionFault::BadField => 3,
-        }
+        *self as u8
     }
 }
 
@@ -101,9 +94,7 @@ impl Refusal for EntryFault {
     ghost number = { entry_number };
 
     fn number(&self) -> u8 {
-        match self {
-            EntryFault::OutOfRange => 18,
-        }
+        *self as u8
     }
 }
 
@@ -124,18 +115,14 @@ impl Refusal for ProgramFault {
 pub fn at_place<T, F>(res: Result<T, F>, place: usize) -> Result<T, Placed<F>>
     ensures { result ≡ placed_fault place res }
 {
-    match res {
-        Ok(value) => Ok(value),
-        Err(fault) => Err(Placed { fault, place }),
-    }
+    res.map_err(|fault| Placed { fault, place })
 }
 
 impl<F> From<Placed<F>> for ListRefusal<F> {
     ghost from_gives = { λ p r. r ≡ Entry p };
 
     fn from(value: Placed<F>) -> ListRefusal<F> {
-        let Placed { fault, place } = value;
-        ListRefusal::Entry(Placed { fault, place })
+        ListRefusal::Entry(value)
     }
 }
 
@@ -163,7 +150,7 @@ impl<F: Refusal> Refusal for ListRefusal<F> {
     fn number(&self) -> u8 {
         match self {
             ListRefusal::Outside => INSIDE_LIST,
-            ListRefusal::Entry(placed) => placed.fault.number(),
+            ListRefusal::Entry(placed) => placed.number(),
         }
     }
 }
@@ -192,8 +179,9 @@ impl Refusal for NothingWaits {
     }
 }
 
-impl Refusal for ProgramRefusal {
-    ghost number = { program_refusal_number };
+// The place does not change the number.
+impl<F: Refusal> Refusal for Placed<F> {
+    ghost number = { placed_number F.Refusal.number };
 
     fn number(&self) -> u8 {
         self.fault.number()

@@ -5,7 +5,7 @@ ghost use Rattle.formats.proofs.Bytes.{bytes_sized, again_from, back_from};
 ghost use Rattle.formats.proofs.Instructions.{word_fits, word_again, word_back};
 ghost use Rattle.std.proofs.Common.{rules};
 
-use crate::low::{channel_of, immediate_of, register_of};
+use crate::low::{low, register_of};
 use crate::packed::PackedEntry;
 use answers::refusal::InstructionFault;
 use formats::below::Immediate;
@@ -28,7 +28,7 @@ fn split(word: u32) -> Fields
         d: register_of(word / 16777216 % 8),
         a: register_of(word / 2097152 % 8),
         b: register_of(word / 262144 % 8),
-        n: immediate_of(word),
+        n: low(word),
     }
 }
 
@@ -58,7 +58,7 @@ fn only_if(zero: bool, instruction: Instruction) -> Result<Instruction, Instruct
 fn encode(instruction: Instruction) -> Fields
     ensures { result ≡ encoded instruction }
 {
-    let zero = immediate_of(0);
+    let zero = low(0);
     let none = Register::R0;
     match instruction {
         Instruction::Halt => place(0, none, none, none, zero),
@@ -75,7 +75,7 @@ fn encode(instruction: Instruction) -> Fields
         Instruction::End => place(11, none, none, none, zero),
         Instruction::Retry => place(12, none, none, none, zero),
         Instruction::Early => place(13, none, none, none, zero),
-        Instruction::Out { a, channel } => place(14, none, a, none, immediate_of(channel.value())),
+        Instruction::Out { a, channel } => place(14, none, a, none, low(channel.value())),
     }
 }
 
@@ -108,7 +108,7 @@ fn decode(f: Fields) -> Result<Instruction, InstructionFault>
             no_d & no_b & (n.value() < 256),
             Instruction::Out {
                 a,
-                channel: channel_of(n.value()),
+                channel: low(n.value()),
             },
         ),
         15.. => Err(InstructionFault::UnknownOpcode),

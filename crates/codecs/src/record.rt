@@ -5,7 +5,7 @@ ghost use Rattle.formats.proofs.Bytes.{bytes_sized, again_from, back_from};
 ghost use Rattle.formats.proofs.Records.{word_fits, word_again, word_back};
 ghost use Rattle.std.proofs.Common.{rules};
 
-use crate::low::{core_of, count_of};
+use crate::low::low;
 use crate::packed::PackedEntry;
 use answers::refusal::EntryFault;
 use formats::entry::{Mark, RecordEntry};
@@ -39,9 +39,9 @@ fn decode(word: u32) -> Result<RecordEntry, EntryFault>
     let count = word % 65536;
     if (mark <= 2) & (spare == 0) & (count <= 4096) {
         Ok(RecordEntry {
-            core: core_of(word / 536870912),
+            core: low(word / 536870912),
             mark: mark_of(mark),
-            count: count_of(count),
+            count: low(count),
         })
     } else {
         Err(EntryFault::OutOfRange)

@@ -5,7 +5,7 @@ ghost use Rattle.formats.proofs.Bytes.{bytes_sized, again_from, back_from};
 ghost use Rattle.formats.proofs.Sents.{code_fits, code_again, code_back};
 ghost use Rattle.std.proofs.Common.{rules};
 
-use crate::low::channel_of;
+use crate::low::low;
 use crate::packed::PackedEntry;
 use formats::entry::SentEntry;
 use std::convert::Infallible;
@@ -22,7 +22,7 @@ fn decode(code: u64) -> SentEntry
     ensures { result ≡ sent_of code }
 {
     SentEntry {
-        channel: channel_of((code / 4294967296) as u32),
+        channel: low((code / 4294967296) as u32),
         word: (code % 4294967296) as u32,
     }
 }

@@ -9,10 +9,6 @@ impl Mark {
     pub fn number(self) -> u8
         ensures { result ≡ mark_number self }
     {
-        match self {
-            Mark::Completed => 0,
-            Mark::Discarded => 1,
-            Mark::Kept => 2,
-        }
+        self as u8
     }
 }

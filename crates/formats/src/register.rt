@@ -20,15 +20,6 @@ impl Register {
     pub fn number(self) -> u8
         ensures { result ≡ register_number self }
     {
-        match self {
-            Register::R0 => 0,
-            Register::R1 => 1,
-            Register::R2 => 2,
-            Register::R3 => 3,
-            Register::R4 => 4,
-            Register::R5 => 5,
-            Register::R6 => 6,
-            Register::R7 => 7,
-        }
+        self as u8
     }
 }
