@@ -4,8 +4,7 @@
 --   result_code  what is told, as one number
 -- Assumes nothing.
 use Rattle.std.specs.Prelude.{◌≡◌, ℕ, ◌+◌, ◌*◌, ◌/◌, ◌%◌, List, [], length, Ok, Err, Result}
-use Rattle.answers.specs.declared.refusal.ProgramRefusal.{ProgramRefusal}
-use Rattle.answers.specs.Refusals.{program_refusal_number}
+use Rattle.answers.specs.Refusals.{ProgramRefusal, program_refusal_number}
 use Rattle.formats.specs.declared.instruction.Instruction.{Instruction}
 use Rattle.memory.specs.Bytes.{memory_in}
 use Rattle.program.specs.Reading.{read_program}

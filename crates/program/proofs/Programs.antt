@@ -2,12 +2,13 @@
 -- Assumes nothing.
 use Rattle.std.proofs.Common.{◌≡◌, ℕ, zero, suc, ◌+◌, ◌-◌, ◌/◌, ◌%◌, ◌<◌, ◌≤◌, true, false, ◌&&◌, eqb, leb, List, [], ◌∷◌, ◌++◌, length, get_or, take, set, Some, Ok, Err, Result, sym, refl, ap, ◌∙◌, subst, inl, inr, append_assoc, append-nil, add-one, arith, length-set, length-take-le, get_or-take, take-suc-set, ltb-true, lt-ltb, leb-true}
 use native.Mathlib.Nat.{sub-zero}
+use Rattle.std.specs.Option.{unwrap_or}
 use Rattle.std.proofs.lemmas.List.{get_or_default, get_or_past}
-use Rattle.std.proofs.lemmas.Bool.{cases_Bool, cases_lt, cases_eq, both_ways, and_parts, and_from}
+use Rattle.std.proofs.lemmas.Bool.{cases_Bool, cases_lt, cases_eq, le-ltb, both_ways, and_parts, and_from}
 use Rattle.answers.specs.declared.refusal.InstructionFault.{InstructionFault}
 use Rattle.answers.specs.declared.refusal.ListRefusal.{ListRefusal}
 use Rattle.answers.specs.declared.refusal.ProgramFault.TheVariants.{NoEnd}
-use Rattle.answers.specs.declared.refusal.ProgramRefusal.{ProgramRefusal}
+use Rattle.answers.specs.Refusals.{ProgramRefusal}
 use Rattle.formats.specs.declared.instruction.Instruction.{Instruction}
 use Rattle.formats.specs.declared.instruction.Instruction.TheVariants.{Halt, Set, Add, Sub, Mean, Load, Store, Jump, Jz, Jlt, Begin, End, Retry, Early, Out}
 use Rattle.formats.specs.Instructions.{bytes_instruction}
@@ -58,10 +59,13 @@ targets_push count (j ∷ is) i h t = let p = and_parts (target_inside count j) 
 pub front_item : (is : List Instruction) (count place : ℕ) (x : Instruction) → count ≤ length is → place < count → get_or is place x ≡ get_or (take count is) place Halt
 front_item is count place x h lt = get_or_default is place x Halt (omega arith) ∙ sym (get_or-take count is place Halt lt)
 
--- what stands at a place of a program
-pub item_in : (is : List Instruction) (count place : ℕ) (x : Instruction) → count ≤ length is → place < count → Some (get_or is place x) ≡ instruction_in (take count is) place
-item_in is count place x h lt =
-    rw (lt-ltb place (length (take count is)) (omega (arith, length-take-le count is h))) (ap Some (front_item is count place x h lt))
+-- the instruction at a place, or HALT where there is none
+pub halt_past : (is : List Instruction) (pc : ℕ) → unwrap_or (instruction_in is pc) Halt ≡ get_or is pc Halt
+halt_past is pc =
+    elim (cases_lt pc (length is)) [
+      | inl lt ↦ rw (lt-ltb pc (length is) lt) refl
+      | inr le ↦ rw (le-ltb pc (length is) le) (sym (get_or_past is pc Halt le))
+    ]
 
 -- the state of the reading before an instruction: the front that was read, and what is left
 pub record Sofar (count : ℕ) (bytes : List ℕ) (is : List Instruction) (place : ℕ) : Type 0 where

@@ -1,7 +1,7 @@
 -- A program as the list of its instructions.
 -- Assumes nothing.
 use Rattle.std.specs.Prelude.{ℕ, cond, List, length, take, Some, None, Ok, Err, Option, Result, nat_lt, slice_index_or}
-use Rattle.answers.specs.declared.refusal.ProgramRefusal.{ProgramRefusal}
+use Rattle.answers.specs.Refusals.{ProgramRefusal}
 use Rattle.formats.specs.declared.instruction.Instruction.{Instruction}
 use Rattle.formats.specs.declared.instruction.Instruction.TheVariants.{Halt}
 use Rattle.program.specs.declared.program.Program.{Program}

@@ -4,8 +4,7 @@ use Rattle.std.specs.Prelude.{ℕ, zero, suc, ◌-◌, ◌/◌, ◌%◌, Bool, c
 use Rattle.answers.specs.declared.refusal.InstructionFault.{InstructionFault}
 use Rattle.answers.specs.declared.refusal.ListRefusal.{ListRefusal}
 use Rattle.answers.specs.declared.refusal.ProgramFault.TheVariants.{ByteCount, TargetOutside, NoEnd}
-use Rattle.answers.specs.declared.refusal.ProgramRefusal.{ProgramRefusal}
-use Rattle.answers.specs.Refusals.{program_refusal}
+use Rattle.answers.specs.Refusals.{ProgramRefusal, program_refusal}
 use Rattle.formats.specs.declared.instruction.Instruction.{Instruction}
 use Rattle.formats.specs.Instructions.{bytes_instruction}
 use Rattle.packed.specs.List.{entry_at}

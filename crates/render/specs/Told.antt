@@ -8,8 +8,7 @@ use Rattle.answers.specs.declared.refusal.InstructionFault.{InstructionFault}
 use Rattle.answers.specs.declared.refusal.EntryFault.{EntryFault}
 use Rattle.answers.specs.declared.refusal.ListRefusal.{ListRefusal}
 use Rattle.answers.specs.declared.refusal.ListRefusal.TheVariants.{Outside, Entry}
-use Rattle.answers.specs.declared.refusal.ProgramRefusal.{ProgramRefusal}
-use Rattle.answers.specs.Refusals.{instruction_number, entry_number, list_number, program_refusal_number}
+use Rattle.answers.specs.Refusals.{ProgramRefusal, instruction_number, entry_number, list_number, program_refusal_number}
 use Rattle.formats.specs.declared.instruction.Instruction.{Instruction}
 use Rattle.formats.specs.declared.entry.RecordEntry.{RecordEntry}
 use Rattle.formats.specs.declared.entry.SentEntry.{SentEntry}

@@ -8,23 +8,25 @@ use super::Program;
 use formats::instruction::Instruction;
 
 impl Program {
+    // The instructions, in order.
+    pub fn as_slice(&self) -> &[Instruction]
+        ensures { result.now ≡ instructions_of self.now }
+    {
+        &self.instructions[..self.count]
+    }
+
     // How many instructions it has, 1 to 512.
     pub fn len(&self) -> usize
         ensures { result ≡ length (instructions_of self.now) }
     {
-        let instructions = self.count;
-        instructions
+        self.as_slice().len()
     }
 
     // The instruction at a place, or None past the last.
     pub fn get(&self, place: usize) -> Option<Instruction>
         ensures { result ≡ instruction_in (instructions_of self.now) place }
     {
-        if place < self.len() {
-            Some(self.instructions[place])
-        } else {
-            None
-        }
+        self.as_slice().get(place).copied()
     }
 
     // The instruction at a place, HALT past the last. A jump of it stays below 512, and one that goes on with the next
@@ -34,10 +36,6 @@ impl Program {
         ensures targets { target_inside 512 result ≡ true }
         ensures onward { ends result ≡ false → pc < 511 }
     {
-        if pc < self.count {
-            self.instructions[pc]
-        } else {
-            Instruction::Halt
-        }
+        self.get(pc).unwrap_or(Instruction::Halt)
     }
 }

@@ -13,7 +13,7 @@ use packed::list::get;
 fn good_count(bytes: usize) -> bool
     ensures { result ≡ good_count bytes }
 {
-    bytes % 4 == 0 && bytes >= 4 && bytes <= 2048
+    bytes % 4 == 0 && (4..=2048).contains(&bytes)
 }
 
 // Whether a jump of a program of `count` instructions leads to one of them.
@@ -21,9 +21,9 @@ fn target_inside(count: usize, instruction: Instruction) -> bool
     ensures { result ≡ target_inside count instruction }
 {
     match instruction {
-        Instruction::Jump { n } => (n.value() as usize) < count,
-        Instruction::Jz { a: _, n } => (n.value() as usize) < count,
-        Instruction::Jlt { a: _, b: _, n } => (n.value() as usize) < count,
+        Instruction::Jump { n } | Instruction::Jz { n, .. } | Instruction::Jlt { n, .. } => {
+            (n.value() as usize) < count
+        }
         _ => true,
     }
 }
