@@ -1,4 +1,4 @@
-// Why a call of the engine was refused: each case is a question that was answered with no.
+// Why a call of the engine was refused: each case is a question that was answered with no, with its number.
 ghost use Rattle.model.specs.Refusals.{check_number, step_number, clear_number, hold_number, read_number, give_back_number, record_number, tags_number};
 
 use answers::refusal::Refusal;
@@ -7,80 +7,75 @@ use answers::refusal::Refusal;
 #[derive(Clone, Copy, PartialEq, Eq, Debug)]
 pub enum CheckRefusal {
     // the entry places are none, or more than 8
-    CoreCount,
+    CoreCount = 6,
     // the lines of a core are none, or more than 32
-    LineCount,
+    LineCount = 7,
     // the memory has no word, or more than 4,096
-    MemoryLength,
+    MemoryLength = 8,
     // an entry place is not below the instruction count
-    EntryOutside,
+    EntryOutside = 9,
 }
 
 // A step or a turn that is not taken.
 #[derive(Clone, Copy, PartialEq, Eq, Debug)]
 pub enum StepRefusal {
     // there is no such core
-    NoSuchCore,
+    NoSuchCore = 10,
     // the record has no free entry, or only one while another core has the token
-    RecordFull,
+    RecordFull = 11,
 }
 
 // The record is not cleared.
 #[derive(Clone, Copy, PartialEq, Eq, Debug)]
 pub enum ClearRefusal {
     // the token is not free
-    TokenTaken,
+    TokenTaken = 12,
 }
 
 // The token is not given to the host.
 #[derive(Clone, Copy, PartialEq, Eq, Debug)]
 pub enum HoldRefusal {
     // the token is not free
-    TokenTaken,
+    TokenTaken = 12,
 }
 
 // The host's read is not answered.
 #[derive(Clone, Copy, PartialEq, Eq, Debug)]
 pub enum ReadRefusal {
     // the host does not have the token
-    NotHeld,
+    NotHeld = 13,
     // the address is not below the memory's length
-    AddressOutside,
+    AddressOutside = 14,
 }
 
 // The token is not given back.
 #[derive(Clone, Copy, PartialEq, Eq, Debug)]
 pub enum GiveBackRefusal {
     // the host does not have the token
-    NotHeld,
+    NotHeld = 13,
 }
 
 // The record has no entry there.
 #[derive(Clone, Copy, PartialEq, Eq, Debug)]
 pub enum RecordRefusal {
     // the place is not filled
-    NotFilled,
+    NotFilled = 16,
 }
 
 // A core's tags are not copied.
 #[derive(Clone, Copy, PartialEq, Eq, Debug)]
 pub enum TagsRefusal {
     // there is no such core
-    NoSuchCore,
+    NoSuchCore = 10,
     // the list has too few places
-    TooShort,
+    TooShort = 17,
 }
 
 impl Refusal for CheckRefusal {
     ghost number = { check_number };
 
     fn number(&self) -> u8 {
-        match self {
-            CheckRefusal::CoreCount => 6,
-            CheckRefusal::LineCount => 7,
-            CheckRefusal::MemoryLength => 8,
-            CheckRefusal::EntryOutside => 9,
-        }
+        *self as u8
     }
 }
 
@@ -88,10 +83,7 @@ impl Refusal for StepRefusal {
     ghost number = { step_number };
 
     fn number(&self) -> u8 {
-        match self {
-            StepRefusal::NoSuchCore => 10,
-            StepRefusal::RecordFull => 11,
-        }
+        *self as u8
     }
 }
 
@@ -99,9 +91,7 @@ impl Refusal for ClearRefusal {
     ghost number = { clear_number };
 
     fn number(&self) -> u8 {
-        match self {
-            ClearRefusal::TokenTaken => 12,
-        }
+        *self as u8
     }
 }
 
@@ -109,9 +99,7 @@ impl Refusal for HoldRefusal {
     ghost number = { hold_number };
 
     fn number(&self) -> u8 {
-        match self {
-            HoldRefusal::TokenTaken => 12,
-        }
+        *self as u8
     }
 }
 
@@ -119,10 +107,7 @@ impl Refusal for ReadRefusal {
     ghost number = { read_number };
 
     fn number(&self) -> u8 {
-        match self {
-            ReadRefusal::NotHeld => 13,
-            ReadRefusal::AddressOutside => 14,
-        }
+        *self as u8
     }
 }
 
@@ -130,9 +115,7 @@ impl Refusal for GiveBackRefusal {
     ghost number = { give_back_number };
 
     fn number(&self) -> u8 {
-        match self {
-            GiveBackRefusal::NotHeld => 13,
-        }
+        *self as u8
     }
 }
 
@@ -140,9 +123,7 @@ impl Refusal for RecordRefusal {
     ghost number = { record_number };
 
     fn number(&self) -> u8 {
-        match self {
-            RecordRefusal::NotFilled => 16,
-        }
+        *self as u8
     }
 }
 
@@ -150,9 +131,6 @@ impl Refusal for TagsRefusal {
     ghost number = { tags_number };
 
     fn number(&self) -> u8 {
-        match self {
-            TagsRefusal::NoSuchCore => 10,
-            TagsRefusal::TooShort => 17,
-        }
+        *self as u8
     }
 }

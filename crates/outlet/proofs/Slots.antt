@@ -1,6 +1,5 @@
 -- The entries in the slots of bytes: how many, which, and what putting one makes of them.
-use Rattle.std.proofs.Common.{◌≡◌, ℕ, suc, ◌+◌, ◌-◌, ◌*◌, ◌/◌, ◌%◌, ◌<◌, List, [], ◌∷◌, ◌++◌, length, get_or, take, drop, set, sym, refl, ap, ◌∙◌, inl, inr, append_assoc, arith, length-append, length-drop, length-set, length-take, drop-cons, get_or-set_other, get_or-set_same, drop-drop}
-use lib.Seq.{sets-eq}
+use Rattle.std.proofs.Common.{◌≡◌, ℕ, ◌+◌, ◌-◌, ◌*◌, ◌/◌, ◌%◌, ◌<◌, List, [], ◌∷◌, length, get_or, take, drop, set, sym, refl, ap, ◌∙◌, inl, inr, arith, length-append, length-drop, length-set, length-take, get_or-set_other, get_or-set_same}
 use borrow.Rule.Slice.PartMut.{put_mid}
 use Rattle.std.proofs.lemmas.List.FromFn.{length-map-range_with_len, get_or-map-range_with_len}
 use Rattle.std.proofs.lemmas.List.{same_lists}
@@ -92,37 +91,6 @@ entries_put bs i e h =
             ∙ ap (λ j. get_or (set (entries_in bs) i e) j d) (sym same)
       ]
     ])
-
--- the places of a slot's bytes, one behind the other
-module _ (i : ℕ) where
-  second : 5 * i + 1 ≡ suc (5 * i)
-  second = omega arith
-
-  third : 5 * i + 2 ≡ suc (suc (5 * i))
-  third = omega arith
-
-  fourth : 5 * i + 3 ≡ suc (suc (suc (5 * i)))
-  fourth = omega arith
-
-  fifth : 5 * i + 4 ≡ suc (suc (suc (suc (5 * i))))
-  fifth = omega arith
-
--- five bytes written one by one are written over those of the slot
-pub five_put : (bs : List ℕ) (i a b c d e : ℕ) → i < length bs / 5 → set (set (set (set (set bs (5 * i) a) (5 * i + 1) b) (5 * i + 2) c) (5 * i + 3) d) (5 * i + 4) e ≡ with_entry 5 (a ∷ b ∷ c ∷ d ∷ e ∷ []) bs i
-five_put bs i a b c d e h =
-    let new : List ℕ = a ∷ b ∷ c ∷ d ∷ e ∷ [] in
-    rw (second i, third i, fourth i, fifth i)
-    (sets-eq new bs (5 * i) (omega arith)
-    ∙ append_assoc (take (5 * i) bs) new (drop (5 * i + 5) bs)
-    ∙ ap (λ l. take (5 * i) bs ++ (new ++ l)) (sym (drop-drop 5 (5 * i) bs))
-    ∙ written 5 new bs i (5 * i) h (omega arith))
-
--- five bytes read one by one are those of the slot
-pub five_read : (bs : List ℕ) (i : ℕ) → i < length bs / 5 → get_or bs (5 * i) 0 ∷ get_or bs (5 * i + 1) 0 ∷ get_or bs (5 * i + 2) 0 ∷ get_or bs (5 * i + 3) 0 ∷ get_or bs (5 * i + 4) 0 ∷ [] ≡ entry_bytes 5 bs i
-five_read bs i h =
-    let at : i * 5 ≡ 5 * i = omega arith in
-    rw (at, second i, third i, fourth i, fifth i)
-    (rw (drop-cons bs (5 * i) 0 (omega arith), drop-cons bs (suc (5 * i)) 0 (omega arith), drop-cons bs (suc (suc (5 * i))) 0 (omega arith), drop-cons bs (suc (suc (suc (5 * i)))) 0 (omega arith), drop-cons bs (suc (suc (suc (suc (5 * i))))) 0 (omega arith)))
 
 -- a list of five is its elements
 pub five_of : (bs : List ℕ) → length bs ≡ 5 → bs ≡ get_or bs 0 0 ∷ get_or bs 1 0 ∷ get_or bs 2 0 ∷ get_or bs 3 0 ∷ get_or bs 4 0 ∷ []

@@ -6,7 +6,7 @@ ghost use Rattle.outlet.specs.Places.{waiting_in, room_in, next_place, bytes_bes
 ghost use Rattle.outlet.specs.Waiting.{send_answer, sent, room_sent, take_answer, taken, room_taken};
 
 use crate::ring::Ring;
-use crate::slot::{bytes_of, entry_of};
+use crate::slot::{get, put};
 use crate::waiting::Outlet;
 use answers::refusal::{NoRoom, NothingWaits};
 use formats::entry::SentEntry;
@@ -53,19 +53,9 @@ impl<'a> Outlet for ByteOutlet<'a> {
         ensures holds { self.new.bytes.ghost_name ≡ self.old.bytes.ghost_name }
         ensures ring { Claimed self.old.ring self.new.ring }
     {
-        match self.ring.claim() {
-            Some(place) => {
-                let at = 5 * place;
-                let [a, b, c, d, e] = bytes_of(entry);
-                self.bytes[at] = a;
-                self.bytes[at + 1] = b;
-                self.bytes[at + 2] = c;
-                self.bytes[at + 3] = d;
-                self.bytes[at + 4] = e;
-                Ok(())
-            }
-            None => Err(NoRoom),
-        }
+        let place = self.ring.claim().ok_or(NoRoom)?;
+        put(self.bytes, place, entry);
+        Ok(())
     }
 
     // Beyond what every outlet promises: no byte changes.
@@ -78,19 +68,9 @@ impl<'a> Outlet for ByteOutlet<'a> {
         ensures holds { self.new.bytes.ghost_name ≡ self.old.bytes.ghost_name }
         ensures ring { Released self.old.ring self.new.ring }
     {
-        match self.ring.release() {
-            Some(place) => {
-                let at = 5 * place;
-                Ok(entry_of([
-                    self.bytes[at],
-                    self.bytes[at + 1],
-                    self.bytes[at + 2],
-                    self.bytes[at + 3],
-                    self.bytes[at + 4],
-                ]))
-            }
-            None => Err(NothingWaits),
-        }
+        let place = self.ring.release().ok_or(NothingWaits)?;
+        let bytes = &mut *self.bytes;
+        Ok(get(bytes, place))
     }
 
     fn room(&self) -> usize {

@@ -42,20 +42,14 @@ impl Outlet for StoreOutlet {
     ghost beside = { λ _. nothing };
 
     fn send(&mut self, entry: SentEntry) -> Result<(), NoRoom> {
-        match self.ring.claim() {
-            Some(place) => {
-                self.entries[place] = entry;
-                Ok(())
-            }
-            None => Err(NoRoom),
-        }
+        let place = self.ring.claim().ok_or(NoRoom)?;
+        self.entries[place] = entry;
+        Ok(())
     }
 
     fn take(&mut self) -> Result<SentEntry, NothingWaits> {
-        match self.ring.release() {
-            Some(place) => Ok(self.entries[place]),
-            None => Err(NothingWaits),
-        }
+        let place = self.ring.release().ok_or(NothingWaits)?;
+        Ok(self.entries[place])
     }
 
     fn room(&self) -> usize {

@@ -1,12 +1,12 @@
-use Rattle.std.proofs.Common.{◌≡◌, ℕ, ◌+◌, ◌-◌, List, Ok, sym, refl, ap, ◌∙◌}
+use Rattle.std.proofs.Common.{◌≡◌, ◌+◌, ◌-◌, Ok, sym, refl, ap, ◌∙◌}
 use Rattle.std.proofs.lemmas.Bool.{lt-ltb}
+use Rattle.std.specs.Result.{result_ok}
 use Rattle.formats.specs.declared.entry.SentEntry.{SentEntry}
-use Rattle.formats.specs.Bytes.{spelled}
 use Rattle.formats.specs.Sents.{sent_of}
 use Rattle.outlet.specs.Bytes.{entries_in}
 use Rattle.outlet.specs.Ring.{wrapped, ring_of}
-use Rattle.outlet.proofs.Images.{released_inside, image_takes, stands_taken}
-use Rattle.outlet.proofs.Slots.{entries_length, five_read}
+use Rattle.outlet.proofs.Images.{image_takes, stands_taken}
+use Rattle.outlet.proofs.Slots.{entries_length}
 use Rattle.outlet.proofs.Turns.{released_some, takes, takes_rest, takes_room}
 use Rattle.outlet.proofs.bytes.ByteOutletOutlet.take.Goals as goal
 
@@ -14,24 +14,24 @@ use Rattle.outlet.proofs.bytes.ByteOutletOutlet.take.Goals as goal
 none : SentEntry
 none = sent_of 0
 
-pub returns-in-Some : goal.returns-in-Some
-returns-in-Some c =
+pub returns : goal.returns
+returns c =
     let o = c.args.self.now in
     let r = c.args.self.now.ring in
     let bs = c.args.self.now.bytes.now in
-    let v = c.in-Some.ensures.value in
+    let v = sym (c.ok_or.ensures.ok_part ∙ ap result_ok c.in_ok-place.was) ∙ c.release.ensures.value in
     let long = entries_length bs ∙ sym o.whole in
-    let t = lt-ltb 0 r.count (released_some r.first r.count c.in-Some.place v) in
+    let t = lt-ltb 0 r.count (released_some r.first r.count c.in_ok-place.place v) in
     let f : c.release.new.self.first ≡ wrapped r.places (r.first + 1) = c.release.ensures.first ∙ rw t in
     record {
-      value = ap Ok (c.entry_of.ensures ∙ ap (λ (l : List ℕ). sent_of (spelled l)) (five_read bs c.in-Some.place (released_inside bs r.places r.first r.count c.in-Some.place o.whole r.inside r.filled v)) ∙ image_takes bs r.places r.first r.count c.in-Some.place o.whole r.inside r.filled v none)
-          ∙ takes (entries_in bs) r.places r.first r.count c.in-Some.place none long r.inside r.filled v;
+      value = ap Ok (c.get.ensures ∙ image_takes bs r.places r.first r.count c.in_ok-place.place o.whole r.inside r.filled v none)
+          ∙ takes (entries_in bs) r.places r.first r.count c.in_ok-place.place none long r.inside r.filled v;
       after = ap (λ i. ring_of (entries_in bs) i c.release.new.self.count) f
           ∙ ap (ring_of (entries_in bs) (wrapped r.places (r.first + 1))) c.release.ensures.count
-          ∙ takes_rest (entries_in bs) r.places r.first r.count c.in-Some.place none long r.inside r.filled v;
+          ∙ takes_rest (entries_in bs) r.places r.first r.count c.in_ok-place.place none long r.inside r.filled v;
       left = ap (λ n. n - c.release.new.self.count) c.release.ensures.places
           ∙ ap (λ n. r.places - n) c.release.ensures.count
-          ∙ takes_room (entries_in bs) r.places r.first r.count c.in-Some.place none long r.inside r.filled v;
+          ∙ takes_room (entries_in bs) r.places r.first r.count c.in_ok-place.place none long r.inside r.filled v;
       stands = stands_taken c.args.self.now.bytes.ghost_name c.args.self.now.bytes.ghost_name bs bs r.places r.first r.count c.release.new.self.first c.release.new.self.count o.whole refl refl c.release.ensures.first c.release.ensures.count;
       buffer = refl;
       holds = refl;

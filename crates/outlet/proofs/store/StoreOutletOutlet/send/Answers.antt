@@ -1,22 +1,23 @@
 use Rattle.std.proofs.Common.{◌≡◌, ◌+◌, ◌<◌, set, sym, refl, ap, ◌∙◌, arith}
 use Rattle.std.proofs.lemmas.Bool.{lt-ltb}
+use Rattle.std.specs.Result.{result_ok}
 use Rattle.outlet.specs.Ring.{ring_of}
 use Rattle.outlet.proofs.Turns.{claimed_room, claimed_answer, sends}
 use Rattle.outlet.proofs.store.StoreOutletOutlet.send.Goals as goal
 
-pub returns-in-Some : goal.returns-in-Some
-returns-in-Some c =
+pub returns : goal.returns
+returns c =
     let o = c.args.self.now in
     let r = c.args.self.now.ring in
-    let v = c.in-Some.ensures.value in
-    let h : r.count < r.places = claimed_room r.places r.first r.count c.in-Some.place v in
+    let v = sym (c.ok_or.ensures.ok_part ∙ ap result_ok c.in_ok-place.was) ∙ c.claim.ensures.value in
+    let h : r.count < r.places = claimed_room r.places r.first r.count c.in_ok-place.place v in
     let t = lt-ltb r.count r.places h in
     let n : c.claim.new.self.count ≡ r.count + 1 = c.claim.ensures.count ∙ rw t in
     record {
-      value = claimed_answer r.places r.first r.count c.in-Some.place v;
-      after = ap (ring_of (set o.entries c.in-Some.place c.args.entry) c.claim.new.self.first) n
-          ∙ ap (λ f. ring_of (set o.entries c.in-Some.place c.args.entry) f (r.count + 1)) c.claim.ensures.first
-          ∙ sends o.entries r.places r.first r.count c.in-Some.place (o.long ∙ sym o.whole) r.inside v c.args.entry;
+      value = claimed_answer r.places r.first r.count c.in_ok-place.place v;
+      after = ap (ring_of (set o.entries c.in_ok-place.place c.args.entry) c.claim.new.self.first) n
+          ∙ ap (λ f. ring_of (set o.entries c.in_ok-place.place c.args.entry) f (r.count + 1)) c.claim.ensures.first
+          ∙ sends o.entries r.places r.first r.count c.in_ok-place.place (o.long ∙ sym o.whole) r.inside v c.args.entry;
       left = omega (arith, c.claim.ensures.places);
       stands = refl;
     }

@@ -1,25 +1,26 @@
 use Rattle.std.proofs.Common.{◌≡◌, ◌+◌, ◌-◌, sym, refl, ap, ◌∙◌}
 use Rattle.std.proofs.lemmas.Bool.{lt-ltb}
+use Rattle.std.specs.Result.{result_ok}
 use Rattle.outlet.specs.Ring.{wrapped, ring_of}
 use Rattle.outlet.proofs.Turns.{released_some, takes, takes_rest, takes_room}
 use Rattle.outlet.proofs.store.StoreOutletOutlet.take.Goals as goal
 
-pub returns-in-Some : goal.returns-in-Some
-returns-in-Some c =
+pub returns : goal.returns
+returns c =
     let o = c.args.self.now in
     let r = c.args.self.now.ring in
-    let v = c.in-Some.ensures.value in
+    let v = sym (c.ok_or.ensures.ok_part ∙ ap result_ok c.in_ok-place.was) ∙ c.release.ensures.value in
     let long = o.long ∙ sym o.whole in
-    let t = lt-ltb 0 r.count (released_some r.first r.count c.in-Some.place v) in
+    let t = lt-ltb 0 r.count (released_some r.first r.count c.in_ok-place.place v) in
     let f : c.release.new.self.first ≡ wrapped r.places (r.first + 1) = c.release.ensures.first ∙ rw t in
     let d = c.index-self-place.result in
     record {
-      value = takes o.entries r.places r.first r.count c.in-Some.place d long r.inside r.filled v;
+      value = takes o.entries r.places r.first r.count c.in_ok-place.place d long r.inside r.filled v;
       after = ap (λ i. ring_of o.entries i c.release.new.self.count) f
           ∙ ap (ring_of o.entries (wrapped r.places (r.first + 1))) c.release.ensures.count
-          ∙ takes_rest o.entries r.places r.first r.count c.in-Some.place d long r.inside r.filled v;
+          ∙ takes_rest o.entries r.places r.first r.count c.in_ok-place.place d long r.inside r.filled v;
       left = ap (λ n. n - c.release.new.self.count) c.release.ensures.places
           ∙ ap (λ n. r.places - n) c.release.ensures.count
-          ∙ takes_room o.entries r.places r.first r.count c.in-Some.place d long r.inside r.filled v;
+          ∙ takes_room o.entries r.places r.first r.count c.in_ok-place.place d long r.inside r.filled v;
       stands = refl;
     }
