@@ -1,137 +1,146 @@
 -- What a line that was found tells of the lines, and lines that stay at different addresses.
 -- Assumes nothing.
-use Rattle.std.proofs.Common.{◌≡◌, ℕ, zero, suc, ◌+◌, ◌<◌, ◌≤◌, Bool, true, false, not, ◌||◌, eqb, List, [], ◌∷◌, ◌++◌, length, take, set, is_some, Some, None, Option, sym, refl, ap, ◌∙◌, inl, inr, arith}
-use Rattle.std.proofs.lemmas.Bool.{cases_Bool, cond-false, eqb-true, and_parts, and_from, or_parts, not-true, not_from_false}
-use Rattle.std.proofs.lemmas.List.{get_or-take, get_or_past, length-take-le, set_past, take_more_set}
+use Rattle.std.proofs.Common.{◌≡◌, ℕ, zero, suc, ◌+◌, ◌<◌, ◌≤◌, Bool, true, false, cond, not, ltb, eqb, ◌&&◌, List, [], ◌∷◌, ◌++◌, length, take, set, Some, None, Option, sym, refl, ap, ◌∙◌, subst, inl, inr, arith, lt-ltb, le-ltb}
+use Rattle.std.specs.List.{position, position_or_len, find, list_any, count_by}
+use Rattle.std.specs.Option.{option_map}
+use Rattle.std.proofs.lemmas.Bool.{cases_Bool, cond-false, ltb-true, ltb-false, and_parts, and_from, or_parts, not-true, not_from_false}
+use Rattle.std.proofs.lemmas.List.{get_or-take, length-take-le, take_more_set}
+use Rattle.std.proofs.lemmas.List.Recursion.{is_count_by}
 use Rattle.std.proofs.lemmas.Bool.Decides.{nat_tests}
 use Rattle.model.specs.declared.place.Line.{Line}
 use Rattle.model.specs.declared.effect.Effect.TheVariants.{Nothing, Wrote}
 use Rattle.model.specs.Lines.{holds, value_at, tagged, restored, store_at, any_dirty, cleaned, wrote, left}
+use Rattle.model.specs.Calls.{tag_count}
 use Rattle.cores.specs.Distinct.{distinct}
-use Rattle.cores.specs.Buffers.{later, index_of, dirty_index, no_line, line_at}
+use Rattle.cores.specs.Buffers.{index_of, dirty_index, no_line, line_at}
+
+-- the model's words in the library's
+pub any_dirty_any : (ls : List Line) → list_any (λ l. l.dirty) ls ≡ any_dirty ls
+any_dirty_any [] = refl
+any_dirty_any (l ∷ ls) = rw (any_dirty_any ls)
+
+pub tagged_any : (ls : List Line) (a : ℕ) → list_any (λ l. eqb l.address a && l.tag) ls ≡ tagged ls a
+tagged_any [] a = refl
+tagged_any (l ∷ ls) a = rw (tagged_any ls a)
+
+pub count_tagged : (ls : List Line) → count_by (λ l. l.tag) ls ≡ tag_count ls
+count_tagged ls = sym (is_count_by tag_count (λ l. l.tag) refl next ls)
+  where
+    next : (l : Line) (ls : List Line) → tag_count (l ∷ ls) ≡ cond l.tag (1 + tag_count ls) (tag_count ls)
+    next l ls = ap (λ n. cond l.tag n (tag_count ls)) (omega arith)
+
+pub value_found : (ls : List Line) (a : ℕ) → option_map (λ l. l.value) (find (λ l. eqb l.address a) ls) ≡ cond (holds ls a) (Some (value_at ls a)) None
+value_found [] a = refl
+value_found (l ∷ ls) a = elim (cases_Bool (eqb l.address a)) [ inl t ↦ rw t | inr t ↦ rw t (value_found ls a) ]
+
+-- one place further on
+abbrev later : Option ℕ → Option ℕ
+later None = None
+later (Some i) = Some (suc i)
+
+-- where the first line that passes stands, one line after the other
+position_next : (test : Line → Bool) (l : Line) (ls : List Line) → position test (l ∷ ls) ≡ cond (test l) (Some 0) (later (position test ls))
+position_next test l ls =
+    let n = position_or_len test ls in
+    elim (cases_Bool (test l)) [
+      | inl t ↦ rw (t, lt-ltb 0 (suc (length ls)) (omega arith)) refl
+      | inr t ↦
+          elim (cases_Bool (ltb n (length ls))) [
+            | inl u ↦ rw (t, u, lt-ltb (1 + n) (suc (length ls)) (omega (arith, ltb-true n (length ls) u))) (ap Some (omega arith))
+            | inr u ↦ rw (t, u, le-ltb (1 + n) (suc (length ls)) (omega (arith, ltb-false n (length ls) u))) refl
+          ]
+    ]
 
 later_some : (o : Option ℕ) (i : ℕ) → later o ≡ Some i → (j : ℕ) × (o ≡ Some j) × (i ≡ suc j)
-later_some None i h = let z : ◌≡◌ {A = ℕ} 0 1 = cc in absurd (omega arith)
+later_some None i h = cc
 later_some (Some j) i h = (j, refl, cc)
 
 later_none : (o : Option ℕ) → later o ≡ None → o ≡ None
 later_none None h = refl
-later_none (Some j) h = let z : ◌≡◌ {A = ℕ} 0 1 = cc in absurd (omega arith)
-
-no_index : {P : Type 0} (i : ℕ) → None ≡ Some i → P
-no_index i h = let z : ◌≡◌ {A = ℕ} 0 1 = cc in absurd (omega arith)
-
-no_none : {P : Type 0} (i : ℕ) → Some i ≡ None → P
-no_none i h = let z : ◌≡◌ {A = ℕ} 0 1 = cc in absurd (omega arith)
-
-same_index : (i j : ℕ) → Some i ≡ Some j → j ≡ i
-same_index i j h = cc
+later_none (Some j) h = cc
 
 -- a line that was found
 pub record Found (ls : List Line) (a i : ℕ) : Type 0 where
   pub within : i < length ls
-  pub there : (line_at ls i).address ≡ a
   pub held : holds ls a ≡ true
-  pub worth : value_at ls a ≡ (line_at ls i).value
   pub stored : (w : ℕ) → store_at ls a w ≡ set ls i (restored (line_at ls i) w)
 
+found_later : (l : Line) (ls : List Line) (a i : ℕ) → eqb l.address a ≡ false → Found ls a i → Found (l ∷ ls) a (suc i)
+found_later l ls a i t f =
+    record { within = omega (arith, f.within); held = rw t f.held; stored = λ w. rw t (ap (λ x. l ∷ x) (f.stored w)) }
+
 pub found : (ls : List Line) (a i : ℕ) → index_of ls a ≡ Some i → Found ls a i
-found [] a i h = no_index i h
+found [] a i h = cc
 found (l ∷ ls) a i h =
+    let e = sym (position_next (λ l. eqb l.address a) l ls) ∙ h in
     elim (cases_Bool (eqb l.address a)) [
       | inl t ↦
-          let first : i ≡ 0 = same_index 0 i (rw t at h) in
-          rw first (record { within = omega arith; there = eqb-true l.address a t; held = rw t; worth = rw t; stored = λ w. rw t })
+          let f : Some 0 ≡ Some i = rw t at e in
+          let first : i ≡ 0 = cc in
+          rw first (record { within = omega arith; held = rw t; stored = λ w. rw t })
       | inr t ↦
-          let p = later_some (index_of ls a) i (rw t at h) in
-          let rest = found ls a p.0 p.1 in
-          let next : i ≡ suc p.0 = p.2 in
-          rw next (record {
-            within = omega (arith, rest.within);
-            there = rest.there;
-            held = rw t rest.held;
-            worth = rw t rest.worth;
-            stored = λ w. rw t (ap (λ x. l ∷ x) (rest.stored w));
-          })
+          let p = later_some (index_of ls a) i (rw t at e) in
+          subst (λ i. Found (l ∷ ls) a i) (sym p.2) (found_later l ls a p.0 t (found ls a p.0 p.1))
     ]
+
+-- no line was found
+pub not_held : (ls : List Line) (a : ℕ) → index_of ls a ≡ None → holds ls a ≡ false
+not_held [] a h = refl
+not_held (l ∷ ls) a h =
+    let e = sym (position_next (λ l. eqb l.address a) l ls) ∙ h in
+    elim (cases_Bool (eqb l.address a)) [
+      | inl t ↦ let f : ◌≡◌ {A = Option ℕ} (Some 0) None = rw t at e in cc
+      | inr t ↦ rw t (not_held ls a (later_none (index_of ls a) (rw t at e)))
+    ]
+
+-- where no line is, none is stored to
+pub not_stored : (ls : List Line) (a w : ℕ) → holds ls a ≡ false → store_at ls a w ≡ ls
+not_stored [] a w h = refl
+not_stored (l ∷ ls) a w h = let p = or_parts (eqb l.address a) (holds ls a) h in rw p.0 (ap (λ x. l ∷ x) (not_stored ls a w p.1))
 
 -- where no line is, none is tagged
 pub untagged : (ls : List Line) (a : ℕ) → holds ls a ≡ false → tagged ls a ≡ false
 untagged [] a h = refl
 untagged (l ∷ ls) a h = let p = or_parts (eqb l.address a) (holds ls a) h in rw p.0 (untagged ls a p.1)
 
--- no line was found
-pub not_held : (ls : List Line) (a : ℕ) → index_of ls a ≡ None → holds ls a ≡ false
-not_held [] a h = refl
-not_held (l ∷ ls) a h =
-    elim (cases_Bool (eqb l.address a)) [
-      | inl t ↦ no_none 0 (rw t at h)
-      | inr t ↦ rw t (not_held ls a (later_none (index_of ls a) (rw t at h)))
-    ]
-
-pub not_tagged : (ls : List Line) (a : ℕ) → index_of ls a ≡ None → tagged ls a ≡ false
-not_tagged ls a h = untagged ls a (not_held ls a h)
-
-or_false : (b : Bool) → (b || false) ≡ b
-or_false true = refl
-or_false false = refl
-
--- the tag of the line that was found is the tag at its address, since no other line is there
-pub found_tag : (ls : List Line) (a i : ℕ) → distinct ls ≡ true → index_of ls a ≡ Some i → tagged ls a ≡ (line_at ls i).tag
-found_tag [] a i d h = no_index i h
-found_tag (l ∷ ls) a i d h =
-    let apart = and_parts (not (holds ls l.address)) (distinct ls) d in
-    elim (cases_Bool (eqb l.address a)) [
-      | inl t ↦
-          let first : i ≡ 0 = same_index 0 i (rw t at h) in
-          let none : holds ls a ≡ false = ap (holds ls) (sym (eqb-true l.address a t)) ∙ not-true _ apart.0 in
-          rw (first, t, untagged ls a none) (or_false l.tag)
-      | inr t ↦
-          let p = later_some (index_of ls a) i (rw t at h) in
-          let next : i ≡ suc p.0 = p.2 in
-          rw (next, t) (found_tag ls a p.0 apart.1 p.1)
-    ]
-
 -- the oldest dirty line
 pub record Oldest (ls : List Line) (i : ℕ) : Type 0 where
   pub within : i < length ls
-  pub some : any_dirty ls ≡ true
   pub writes : wrote ls ≡ Wrote (line_at ls i).address (line_at ls i).value
   pub rest : left ls ≡ set ls i (cleaned (line_at ls i))
 
+oldest_later : (l : Line) (ls : List Line) (i : ℕ) → l.dirty ≡ false → Oldest ls i → Oldest (l ∷ ls) (suc i)
+oldest_later l ls i t f =
+    record { within = omega (arith, f.within); writes = rw t f.writes; rest = cond-false l.dirty _ _ t ∙ ap (λ x. l ∷ x) f.rest }
+
 pub oldest : (ls : List Line) (i : ℕ) → dirty_index ls ≡ Some i → Oldest ls i
-oldest [] i h = no_index i h
+oldest [] i h = cc
 oldest (l ∷ ls) i h =
+    let e = sym (position_next (λ l. l.dirty) l ls) ∙ h in
     elim (cases_Bool l.dirty) [
       | inl t ↦
-          let first : i ≡ 0 = same_index 0 i (rw t at h) in
-          rw first (record { within = omega arith; some = rw t; writes = rw t; rest = rw t })
+          let f : Some 0 ≡ Some i = rw t at e in
+          let first : i ≡ 0 = cc in
+          rw first (record { within = omega arith; writes = rw t; rest = rw t })
       | inr t ↦
-          let p = later_some (dirty_index ls) i (rw t at h) in
-          let rest = oldest ls p.0 p.1 in
-          let next : i ≡ suc p.0 = p.2 in
-          rw next (record {
-            within = omega (arith, rest.within);
-            some = rw t rest.some;
-            writes = rw t rest.writes;
-            rest = cond-false l.dirty _ _ t ∙ ap (λ x. l ∷ x) rest.rest;
-          })
+          let p = later_some (dirty_index ls) i (rw t at e) in
+          subst (λ i. Oldest (l ∷ ls) i) (sym p.2) (oldest_later l ls p.0 t (oldest ls p.0 p.1))
     ]
 
 -- no line is dirty
 pub record Clean (ls : List Line) : Type 0 where
-  pub none : any_dirty ls ≡ false
   pub silent : wrote ls ≡ Nothing
   pub same : left ls ≡ ls
 
 pub clean : (ls : List Line) → dirty_index ls ≡ None → Clean ls
-clean [] h = record { none = refl; silent = refl; same = refl }
+clean [] h = record { silent = refl; same = refl }
 clean (l ∷ ls) h =
+    let e = sym (position_next (λ l. l.dirty) l ls) ∙ h in
     elim (cases_Bool l.dirty) [
-      | inl t ↦ no_none 0 (rw t at h)
+      | inl t ↦ let f : ◌≡◌ {A = Option ℕ} (Some 0) None = rw t at e in cc
       | inr t ↦
-          let rest = clean ls (later_none (dirty_index ls) (rw t at h)) in
-          record { none = rw t rest.none; silent = rw t rest.silent; same = cond-false l.dirty _ _ t ∙ ap (λ x. l ∷ x) rest.same }
+          let rest = clean ls (later_none (dirty_index ls) (rw t at e)) in
+          record { silent = rw t rest.silent; same = cond-false l.dirty _ _ t ∙ ap (λ x. l ∷ x) rest.same }
     ]
 
 -- lines that change but stay where they are
@@ -176,13 +185,6 @@ module _ (lines : List Line) (used : ℕ) (few : used ≤ 32) (sized : length li
   pub front_length : length (take used lines) ≡ used
   front_length = length-take-le used lines (omega arith)
 
-  pub front_past : (i : ℕ) → used ≤ i → no_line ≡ line_at (take used lines) i
-  front_past i h = let long = front_length in sym (get_or_past (take used lines) i no_line (omega arith))
-
-  -- a line past the end does not change
-  pub unchanged : (i : ℕ) (k : Line) → used ≤ i → take used lines ≡ set (take used lines) i k
-  unchanged i k h = let long = front_length in sym (set_past (take used lines) i k (omega arith))
-
   -- a line in use changes
   pub changed : (f : Line → Line) (i : ℕ) → i < used → take used (set lines i (f (line_at lines i))) ≡ set (take used lines) i (f (line_at (take used lines) i))
   changed f i h = take_set_front used lines i (f (line_at lines i)) ∙ ap (λ l. set (take used lines) i (f l)) (sym (get_or-take used lines i no_line h))
@@ -198,11 +200,9 @@ module _ (lines : List Line) (used : ℕ) (few : used ≤ 32) (sized : length li
   pub pushed_apart : (k : Line) → length (take used lines) < 32 → holds (take used lines) k.address ≡ false → distinct (take used lines) ≡ true → distinct (take (used + 1) (set lines used k)) ≡ true
   pushed_apart k h n d = ap distinct (pushed k h) ∙ distinct_push (take used lines) k n d
 
--- whether a line is dirty, by the search for it
-pub dirty_found : (ls : List Line) → is_some (dirty_index ls) ≡ any_dirty ls
-dirty_found [] = refl
-dirty_found (l ∷ ls) = elim (cases_Bool l.dirty) [ inl t ↦ rw t | inr t ↦ rw t (through (dirty_index ls) ∙ dirty_found ls) ]
-  where
-    through : (o : Option ℕ) → is_some (later o) ≡ is_some o
-    through None = refl
-    through (Some i) = refl
+  -- a line that was found stands among those in use
+  pub found_front : (a i : ℕ) → index_of (take used lines) a ≡ Some i → i < used
+  found_front a i h = let f = found (take used lines) a i h in omega (arith, f.within, front_length)
+
+  pub oldest_front : (i : ℕ) → dirty_index (take used lines) ≡ Some i → i < used
+  oldest_front i h = let f = oldest (take used lines) i h in omega (arith, f.within, front_length)

@@ -1,6 +1,6 @@
 -- Copying the tagged addresses of lines, one line more.
 -- Assumes nothing.
-use Rattle.std.proofs.Common.{◌≡◌, ℕ, zero, suc, ◌+◌, ◌<◌, ◌≤◌, true, false, cond, not, eqb, List, [], ◌∷◌, ◌++◌, length, take, drop, set, Ok, Err, sym, refl, ap, ◌∙◌, inl, inr, arith, length-set}
+use Rattle.std.proofs.Common.{◌≡◌, ℕ, zero, suc, ◌+◌, ◌<◌, ◌≤◌, true, false, cond, not, eqb, List, [], ◌∷◌, ◌++◌, length, take, drop, set, Ok, Err, sym, refl, ap, ◌∙◌, inl, inr, arith, length-set, take_all}
 use Rattle.std.proofs.lemmas.List.{take_more, take_more_set, drop-set-lt, drop-drop}
 use Rattle.std.proofs.lemmas.Bool.{cases_Bool, eqb-true, and_parts, not-true, le-leb, lt-leb}
 use Rattle.model.specs.declared.place.Line.{Line}
@@ -88,10 +88,12 @@ module _ (lines : List Line) (i : ℕ) (before after : List ℕ) (number : ℕ) 
       record { counted = sofar.counted ∙ sym count; size = sofar.size; front = sofar.front ∙ sym tags; rest = sofar.rest }
 
   -- a tagged line finds a place in a list that has one for each
-  pub place_left : (used : ℕ) → i < used → (line_at lines i).tag ≡ true → tag_count (take used lines) ≤ length before → number < length after
-  place_left used lt t enough =
+  pub place_left : (line_at lines i).tag ≡ true → tag_count lines ≤ length before → number < length after
+  place_left t enough =
       let count = rw t at (count_next lines i h) in
-      omega (arith, sofar.counted, sofar.size, count, count_front lines (i + 1) used (omega arith))
+      let more = count_front lines (i + 1) (length lines) (omega arith) in
+      let whole = ap tag_count (take_all (length lines) lines (omega arith)) in
+      omega (arith, sofar.counted, sofar.size, count, more, whole)
 
 -- each tagged address stands once, since no other line is there
 pub each_once : (ls : List Line) (a : ℕ) → distinct ls ≡ true → times a (tags_of ls) ≡ cond (tagged ls a) 1 0
@@ -108,10 +110,11 @@ each_once (l ∷ ls) a d =
     ]
 
 -- all lines are copied
-pub copied_all : (lines : List Line) (used : ℕ) (before after : List ℕ) (number : ℕ) → Copied lines used before after number → distinct (take used lines) ≡ true → tag_count (take used lines) ≤ length before → LineTags (take used lines) before after (Ok number)
-copied_all lines used before after number all d enough =
-    rw (le-leb (tag_count (take used lines)) (length before) enough)
-    (number, refl, record { counted = all.counted; size = all.size; each = λ a. ap (times a) all.front ∙ each_once (take used lines) a d; rest = all.rest })
+pub copied_all : (ls : List Line) (before after : List ℕ) (number : ℕ) → Copied ls (length ls) before after number → distinct ls ≡ true → tag_count ls ≤ length before → LineTags ls before after (Ok number)
+copied_all ls before after number all d enough =
+    let whole = take_all (length ls) ls (omega arith) in
+    rw (le-leb (tag_count ls) (length before) enough)
+    (number, refl, record { counted = all.counted ∙ ap tag_count whole; size = all.size; each = λ a. ap (times a) (all.front ∙ ap tags_of whole) ∙ each_once ls a d; rest = all.rest })
 
 -- the list is too short
 pub too_short : (ls : List Line) (before : List ℕ) → length before < tag_count ls → LineTags ls before before (Err TooShort)

@@ -1,10 +1,9 @@
 -- The write buffer as the list of its lines.
 --   lines_of     the lines in use, oldest first
---   first_index  where the first line that passes a test stands
 --   index_of     where the line at an address stands;  dirty_index  where the oldest dirty line stands
 --   line_at      the line at a place of the list;  tags_of  the addresses of the tagged lines
 -- Assumes nothing.
-use Rattle.std.specs.Prelude.{ℕ, suc, Bool, false, cond, List, [], ◌∷◌, take, Some, None, Option, nat_eq, slice_index_or}
+use Rattle.std.specs.Prelude.{ℕ, false, cond, List, [], ◌∷◌, take, Option, nat_eq, position, slice_index_or}
 use Rattle.model.specs.declared.place.Line.{Line}
 use Rattle.cores.specs.declared.buffer.Buffer.{Buffer}
 
@@ -12,23 +11,13 @@ use Rattle.cores.specs.declared.buffer.Buffer.{Buffer}
 abbrev pub lines_of : Buffer → List Line
 lines_of b = take b.used b.lines
 
--- one place further on
-abbrev pub later : Option ℕ → Option ℕ
-later None = None
-later (Some i) = Some (suc i)
-
--- where the first line that passes a test stands
-abbrev pub first_index : (Line → Bool) → List Line → Option ℕ
-first_index test [] = None
-first_index test (l ∷ ls) = cond (test l) (Some 0) (later (first_index test ls))
-
 -- where the line at an address stands
 abbrev pub index_of : List Line → ℕ → Option ℕ
-index_of ls a = first_index (λ l. nat_eq l.address a) ls
+index_of ls a = position (λ l. nat_eq l.address a) ls
 
 -- where the oldest dirty line stands
 abbrev pub dirty_index : List Line → Option ℕ
-dirty_index ls = first_index (λ l. l.dirty) ls
+dirty_index ls = position (λ l. l.dirty) ls
 
 -- what stands for a line past the end
 abbrev pub no_line : Line

@@ -1,4 +1,4 @@
--- A core after a step together with what the step comes to, as the model's outcome.
+-- What a step sees once its instruction is known, and what a BEGIN, a load and a store come to.
 -- Assumes nothing.
 use Rattle.std.specs.Prelude.{ℕ, cond, []}
 use Rattle.answers.specs.declared.answer.Answer.TheVariants.{Running}
@@ -8,12 +8,7 @@ use Rattle.model.specs.Instructions.{put_reg, onward, past}
 use Rattle.model.specs.Lines.{holds, value_at, loaded_line, stored_line, store_at}
 use Rattle.model.specs.Cores.{Core, View, performed, becomes, with_line, Outcome as ModelOutcome}
 use Rattle.cores.specs.declared.scene.Scene.{Scene}
-use Rattle.cores.specs.declared.unit.outcomes.Stepped.{Stepped}
-use Rattle.cores.specs.Units.{outcome_of, scene_view}
-
--- the two together
-abbrev pub stepped_of : Stepped → ModelOutcome
-stepped_of s = outcome_of s.core s.outcome
+use Rattle.cores.specs.Units.{scene_view}
 
 -- what a step sees, once its instruction is known
 abbrev pub scene_of : Scene → View

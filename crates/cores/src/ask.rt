@@ -42,34 +42,28 @@ pub(crate) fn next(place: Place) -> Place
     requires { place.pc ≤ 511 }
     ensures { result ≡ past place }
 {
-    let registers = place.registers;
     Place {
         pc: place.pc + 1,
-        registers,
+        ..place
     }
 }
 
 // The same with another word in a register.
-pub(crate) fn put(place: Place, register: Register, word: u32) -> Place
+pub(crate) fn put(mut place: Place, register: Register, word: u32) -> Place
     requires { place.pc ≤ 511 }
     ensures { result ≡ onward place (put_reg place.registers register word) }
 {
-    let mut registers = place.registers;
-    registers[usize::from(register.number())] = word;
-    Place {
-        pc: place.pc + 1,
-        registers,
-    }
+    place.registers[usize::from(register.number())] = word;
+    next(place)
 }
 
 // Going on at an instruction.
 fn jump(place: Place, target: u32) -> Place
     ensures { result ≡ jumped place target }
 {
-    let registers = place.registers;
     Place {
         pc: target as usize,
-        registers,
+        ..place
     }
 }
 

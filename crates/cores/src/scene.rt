@@ -1,5 +1,6 @@
 // What a step of a core sees of the rest of the engine, and what it comes to besides the core.
-ghost use Rattle.std.specs.Prelude.{◌≤◌};
+ghost use Rattle.std.specs.Prelude.{◌≡◌, ◌≤◌, true, false};
+ghost use Rattle.model.specs.Cores.{if_free};
 
 use answers::answer::Answer;
 use formats::below::CoreNumber;
@@ -23,6 +24,15 @@ pub struct Scene {
     // the core's own number
     pub me: CoreNumber,
     ghost few: { capacity ≤ 32 },
+}
+
+impl Scene {
+    // Whether someone has the commit token.
+    pub(crate) fn token_taken(&self) -> bool
+        ensures { result ≡ if_free self.now.token false true }
+    {
+        self.token != Token::Free
+    }
 }
 
 // What a step comes to besides the core.

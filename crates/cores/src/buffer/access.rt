@@ -1,32 +1,33 @@
 // Looking up the lines of a write buffer.
-ghost use Rattle.std.specs.Prelude.{◌≡◌, [], length};
-ghost use Rattle.model.specs.Lines.{tagged, any_dirty};
-ghost use Rattle.cores.specs.Buffers.{lines_of, index_of, dirty_index, no_line, line_at};
+ghost use Rattle.std.specs.Prelude.{◌≡◌, [], if◌then◌else◌, length};
+ghost use Rattle.model.specs.Lines.{holds, value_at, tagged, any_dirty};
+ghost use Rattle.cores.specs.Buffers.{lines_of, index_of, dirty_index};
 
 use super::Buffer;
 use model::place::Line;
-
-// What stands where no line is in use.
-fn blank() -> Line
-    ensures { result ≡ no_line }
-{
-    Line {
-        address: 0,
-        value: 0,
-        tag: false,
-        dirty: false,
-    }
-}
 
 impl Buffer {
     // A buffer with no line in use.
     pub fn new() -> Buffer
         ensures { lines_of result ≡ [] }
     {
+        let unused = Line {
+            address: 0,
+            value: 0,
+            tag: false,
+            dirty: false,
+        };
         Buffer {
-            lines: [blank(); 32],
+            lines: [unused; 32],
             used: 0,
         }
+    }
+
+    // The lines in use, oldest first.
+    pub(super) fn lines(&self) -> &[Line]
+        ensures { result.now ≡ lines_of self.now }
+    {
+        &self.lines[..self.used]
     }
 
     // How many lines are in use.
@@ -37,54 +38,42 @@ impl Buffer {
     }
 
     // Where the line at an address stands, or None where there is none.
-    pub fn find(&self, address: usize) -> Option<usize>
+    pub(super) fn find(&self, address: usize) -> Option<usize>
         ensures { result ≡ index_of (lines_of self.now) address }
     {
-        for i in 0..self.used {
-            if self.lines[i].address == address {
-                return Some(i);
-            }
-        }
-        None
+        self.lines().iter().position(|line| line.address == address)
     }
 
     // Where the oldest dirty line stands, or None where no line is dirty.
-    pub fn first_dirty(&self) -> Option<usize>
+    pub(super) fn first_dirty(&self) -> Option<usize>
         ensures { result ≡ dirty_index (lines_of self.now) }
     {
-        for i in 0..self.used {
-            if self.lines[i].dirty {
-                return Some(i);
-            }
-        }
-        None
+        self.lines().iter().position(|line| line.dirty)
     }
 
-    // The line at a place of the buffer, blank past the last.
-    pub fn line(&self, index: usize) -> Line
-        ensures { result ≡ line_at (lines_of self.now) index }
+    // The value of the line at an address, or None where there is none.
+    pub fn value(&self, address: usize) -> Option<u32>
+        ensures { result ≡ (if holds (lines_of self.now) address then Some (value_at (lines_of self.now) address) else None) }
     {
-        if index < self.used {
-            self.lines[index]
-        } else {
-            blank()
-        }
+        self.lines()
+            .iter()
+            .find(|line| line.address == address)
+            .map(|line| line.value)
     }
 
     // Whether a line is dirty.
     pub fn any_dirty(&self) -> bool
         ensures { result ≡ any_dirty (lines_of self.now) }
     {
-        self.first_dirty().is_some()
+        self.lines().iter().any(|line| line.dirty)
     }
 
     // Whether there is a line at an address with its read tag set.
     pub fn tagged(&self, address: usize) -> bool
         ensures { result ≡ tagged (lines_of self.now) address }
     {
-        match self.find(address) {
-            Some(index) => self.line(index).tag,
-            None => false,
-        }
+        self.lines()
+            .iter()
+            .any(|line| line.address == address && line.tag)
     }
 }

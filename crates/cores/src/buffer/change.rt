@@ -1,92 +1,62 @@
-// Making, changing and flushing the lines of a write buffer.
-ghost use Rattle.std.specs.Prelude.{◌≡◌, ◌<◌, false, [], ◌∷◌, ◌++◌, length, slice_set};
-ghost use Rattle.model.specs.Lines.{holds, restored, cleaned, wrote, left};
-ghost use Rattle.cores.specs.Buffers.{lines_of, line_at};
+// Making, changing and flushing the lines of a write buffer, and emptying it.
+ghost use Rattle.std.specs.Prelude.{◌≡◌, ◌<◌, false, [], ◌∷◌, ◌++◌, length};
+ghost use Rattle.model.specs.Lines.{holds, store_at, wrote, left};
+ghost use Rattle.cores.specs.Buffers.{lines_of};
 
 use super::Buffer;
 use model::effect::Effect;
 use model::place::Line;
 
 impl Buffer {
-    // The buffer with one more line, at an address that has none.
-    pub(crate) fn with_line(self, line: Line) -> Buffer
-        requires room { length (lines_of self) < 32 }
-        requires fresh { holds (lines_of self) line.address ≡ false }
-        ensures { lines_of result ≡ lines_of self ++ line ∷ [] }
+    // Makes one more line, at an address that has none.
+    pub(crate) fn push(&mut self, line: Line)
+        requires room { length (lines_of self.old) < 32 }
+        requires fresh { holds (lines_of self.old) line.address ≡ false }
+        ensures { lines_of self.new ≡ lines_of self.old ++ line ∷ [] }
     {
-        let mut lines = self.lines;
-        lines[self.used] = line;
-        Buffer {
-            lines,
-            used: self.used + 1,
-        }
+        self.lines[self.used] = line;
+        self.used += 1;
     }
 
-    // The buffer with another word in the line at a place, which is dirty then; its tag stays as it is.
-    pub fn with_word(self, index: usize, value: u32) -> Buffer
-        ensures { lines_of result ≡ slice_set (lines_of self) index (restored (line_at (lines_of self) index) value) }
+    // Puts another word into the line at an address, which is dirty then; its tag stays as it is. Answers whether there is one.
+    pub fn store(&mut self, address: usize, value: u32) -> bool
+        ensures held { result ≡ holds (lines_of self.old) address }
+        ensures lines { lines_of self.new ≡ store_at (lines_of self.old) address value }
     {
-        if index >= self.used {
-            return self;
-        }
-        let mut lines = self.lines;
-        let old = lines[index];
-        lines[index] = Line {
-            address: old.address,
+        let Some(index) = self.find(address) else {
+            return false;
+        };
+        self.lines[index] = Line {
             value,
-            tag: old.tag,
             dirty: true,
+            ..self.lines[index]
         };
-        Buffer {
-            lines,
-            used: self.used,
-        }
+        true
     }
 
-    // The buffer with the line at a place written out: dirty no more.
-    pub fn with_clean(self, index: usize) -> Buffer
-        ensures { lines_of result ≡ slice_set (lines_of self) index (cleaned (line_at (lines_of self) index)) }
+    // Writes out the oldest dirty line, which is dirty no more; answers the write, and nothing where no line is dirty.
+    pub fn flush(&mut self) -> Effect
+        ensures effect { result ≡ wrote (lines_of self.old) }
+        ensures lines { lines_of self.new ≡ left (lines_of self.old) }
     {
-        if index >= self.used {
-            return self;
-        }
-        let mut lines = self.lines;
-        let line = lines[index];
-        lines[index] = Line {
-            address: line.address,
-            value: line.value,
-            tag: line.tag,
+        let Some(index) = self.first_dirty() else {
+            return Effect::Nothing;
+        };
+        let line = self.lines[index];
+        self.lines[index] = Line {
             dirty: false,
+            ..line
         };
-        Buffer {
-            lines,
-            used: self.used,
+        Effect::Wrote {
+            address: line.address,
+            word: line.value,
         }
     }
 
-    // The write of the oldest dirty line, and nothing where no line is dirty.
-    pub fn oldest_write(&self) -> Effect
-        ensures { result ≡ wrote (lines_of self.now) }
+    // Empties the buffer: no line is in use.
+    pub fn clear(&mut self)
+        ensures { lines_of self.new ≡ [] }
     {
-        match self.first_dirty() {
-            Some(index) => {
-                let line = self.line(index);
-                Effect::Wrote {
-                    address: line.address,
-                    word: line.value,
-                }
-            }
-            None => Effect::Nothing,
-        }
-    }
-
-    // The buffer once its oldest dirty line is written: that line is dirty no more.
-    pub fn flushed(self) -> Buffer
-        ensures { lines_of result ≡ left (lines_of self) }
-    {
-        match self.first_dirty() {
-            Some(index) => self.with_clean(index),
-            None => self,
-        }
+        self.used = 0;
     }
 }

@@ -12,13 +12,7 @@ impl Buffer {
     pub fn tag_count(&self) -> usize
         ensures { result ≡ tag_count (lines_of self.now) }
     {
-        let mut number = 0;
-        for i in 0..self.used {
-            if self.lines[i].tag {
-                number += 1;
-            }
-        }
-        number
+        self.lines().iter().filter(|line| line.tag).count()
     }
 
     // Copies the tagged addresses to the first places of a list and answers their number.
@@ -29,8 +23,7 @@ impl Buffer {
             return Err(TagsRefusal::TooShort);
         }
         let mut number = 0;
-        for i in 0..self.used {
-            let line = self.lines[i];
+        for line in self.lines() {
             if line.tag {
                 list[number] = line.address;
                 number += 1;

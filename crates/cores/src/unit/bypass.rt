@@ -3,25 +3,23 @@ ghost use Rattle.std.specs.Prelude.{◌≡◌, ◌<◌, ◌≤◌};
 ghost use Rattle.model.specs.declared.effect.Effect.TheVariants.{Sent};
 ghost use Rattle.model.specs.Cores.{plain_send, in_bypass};
 ghost use Rattle.cores.specs.Decisions.{outer_of, OnwardOuter};
-ghost use Rattle.cores.specs.Steps.{stepped_of, scene_of, opened};
-ghost use Rattle.cores.specs.Units.{core_of};
+ghost use Rattle.cores.specs.Steps.{scene_of, opened};
+ghost use Rattle.cores.specs.Units.{core_of, outcome_of};
 
 use super::Core;
-use super::outcomes::Stepped;
 use crate::ask::{next, put};
-use crate::buffer::Buffer;
 use crate::decide::Outer;
-use crate::scene::Scene;
-use answers::answer::Answer;
+use crate::scene::{Outcome, Scene};
+use answers::answer::{Answer, Fault};
 use formats::entry::{Mark, SentEntry};
 use model::effect::Effect;
-use model::state::{State, Token};
+use model::state::State;
 
 impl Core {
     // Sending outside a block, when the token is free.
-    fn plain_send(self, scene: Scene, entry: SentEntry) -> Stepped
-        requires { self.place.pc < 511 }
-        ensures { stepped_of result ≡ plain_send (scene_of scene) (core_of self) scene.room (Sent entry) }
+    fn plain_send(&mut self, scene: Scene, entry: SentEntry) -> Outcome
+        requires { self.old.place.pc < 511 }
+        ensures { outcome_of self.new result ≡ plain_send (scene_of scene) (core_of self.old) scene.room (Sent entry) }
     {
         if scene.room > 0 {
             self.plain(scene, State::Bypass, next(self.place), Effect::Sent(entry))
@@ -30,50 +28,49 @@ impl Core {
         }
     }
 
-    // The core in the block that its BEGIN opens.
-    fn opened(self) -> Core
-        requires { self.place.pc < 511 }
-        ensures { core_of result ≡ opened (core_of self) }
+    // The core goes into the block that its BEGIN opens.
+    fn open(&mut self)
+        requires { self.old.place.pc < 511 }
+        ensures { core_of self.new ≡ opened (core_of self.old) }
     {
-        Core {
-            state: State::Transaction,
-            place: next(self.place),
-            saved: self.place,
-            depth: 1,
-            count: 1,
-            buffer: Buffer::new(),
-        }
+        self.state = State::Transaction;
+        self.saved = self.place;
+        self.place = next(self.place);
+        self.depth = 1;
+        self.count = 1;
+        self.buffer.clear();
     }
 
     // A step in BYPASS.
-    pub(super) fn in_bypass(self, outer: Outer, scene: Scene) -> Stepped
-        requires here { self.place.pc ≤ 511 }
-        requires onward { OnwardOuter self.place scene.words outer }
-        ensures { stepped_of result ≡ in_bypass (scene_of scene) (core_of self) (outer_of self.place outer) }
+    pub(super) fn in_bypass(&mut self, outer: Result<Outer, Fault>, scene: Scene) -> Outcome
+        requires here { self.old.place.pc ≤ 511 }
+        requires onward { OnwardOuter self.old.place scene.words outer }
+        ensures { outcome_of self.new result ≡ in_bypass (scene_of scene) (core_of self.old) (outer_of self.old.place outer) }
     {
         match outer {
-            Outer::Faults(fault) => self.faulted(scene, Mark::Discarded, 0, fault),
-            Outer::Moves(place) => self.plain(scene, State::Bypass, place, Effect::Nothing),
-            Outer::Loads { address: _, d } => match scene.token {
-                Token::Free => {
-                    let place = put(self.place, d, scene.word);
-                    self.plain(scene, State::Bypass, place, Effect::Nothing)
-                }
-                Token::Core(_) | Token::Host => self.becomes(scene, Answer::Waiting),
-            },
-            Outer::Stores { address, word } => match scene.token {
-                Token::Free => {
-                    let effect = Effect::Wrote { address, word };
-                    self.plain(scene, State::Bypass, next(self.place), effect)
-                }
-                Token::Core(_) | Token::Host => self.becomes(scene, Answer::Waiting),
-            },
-            Outer::Sends(entry) => match scene.token {
-                Token::Free => self.plain_send(scene, entry),
-                Token::Core(_) | Token::Host => self.becomes(scene, Answer::Waiting),
-            },
-            Outer::Opens => self.opened().becomes(scene, Answer::Running),
-            Outer::Stops => self.plain(scene, State::Stopped, next(self.place), Effect::Nothing),
+            Err(fault) => self.faulted(scene, Mark::Discarded, 0, fault),
+            Ok(Outer::Loads { .. } | Outer::Stores { .. } | Outer::Sends(_))
+                if scene.token_taken() => { self.becomes(scene, Answer::Waiting) }
+            Ok(Outer::Moves(place)) => self.plain(scene, State::Bypass, place, Effect::Nothing),
+            Ok(Outer::Loads { address: _, d }) => {
+                let place = put(self.place, d, scene.word);
+                self.plain(scene, State::Bypass, place, Effect::Nothing)
+            }
+            Ok(Outer::Stores { address, word }) => {
+                let effect = Effect::Wrote { address, word };
+                self.plain(scene, State::Bypass, next(self.place), effect)
+            }
+            Ok(Outer::Sends(entry)) => self.plain_send(scene, entry),
+            Ok(Outer::Opens) => {
+                self.open();
+                self.becomes(scene, Answer::Running)
+            }
+            Ok(Outer::Stops) => self.plain(
+                scene,
+                State::Stopped,
+                next(self.place),
+                Effect::Nothing,
+            ),
         }
     }
 }

@@ -1,67 +1,51 @@
 // The ways in which a core changes.
-ghost use Rattle.std.specs.Prelude.{◌≡◌, ◌+◌, ◌<◌, ◌≤◌};
+ghost use Rattle.std.specs.Prelude.{◌≡◌, ◌<◌, ◌≤◌};
 ghost use Rattle.model.specs.Cores.{resting, turned_to, performed, rolled_back};
 ghost use Rattle.cores.specs.Bounds.{pc_most, count_most};
 ghost use Rattle.cores.specs.Buffers.{lines_of};
 ghost use Rattle.cores.specs.Units.{core_of};
 
 use super::Core;
-use crate::buffer::Buffer;
 use model::place::Place;
 use model::state::State;
 
 impl Core {
-    // The core outside every block: no BEGIN open, nothing performed, no lines.
-    pub(super) fn resting(self, state: State, place: Place) -> Core
+    // The core goes outside every block: no BEGIN open, nothing performed, no lines.
+    pub(super) fn rest(&mut self, state: State, place: Place)
         requires { place.pc ≤ pc_most state }
-        ensures { core_of result ≡ resting state place self.saved }
+        ensures { core_of self.new ≡ resting state place self.old.saved }
     {
-        Core {
-            state,
-            place,
-            saved: self.saved,
-            depth: 0,
-            count: 0,
-            buffer: Buffer::new(),
-        }
+        self.state = state;
+        self.place = place;
+        self.depth = 0;
+        self.count = 0;
+        self.buffer.clear();
     }
 
-    // The core back where its block began.
-    pub(super) fn rolled_back(self) -> Core
-        ensures { core_of result ≡ rolled_back (core_of self) }
+    // The core goes back to where its block began.
+    pub(super) fn roll_back(&mut self)
+        ensures { core_of self.new ≡ rolled_back (core_of self.old) }
     {
-        self.resting(State::Bypass, self.saved)
+        self.rest(State::Bypass, self.saved);
     }
 
-    // The core in another state of its block, with these lines.
-    pub(super) fn turned_to(self, state: State, buffer: Buffer) -> Core
-        requires pc_bound { self.place.pc ≤ pc_most state }
-        requires count_bound { self.count ≤ count_most state }
-        ensures { core_of result ≡ turned_to (core_of self) state (lines_of buffer) }
+    // The core comes to another state of its block, with the lines that it has.
+    pub(super) fn turn_to(&mut self, state: State)
+        requires pc_bound { self.old.place.pc ≤ pc_most state }
+        requires count_bound { self.old.count ≤ count_most state }
+        ensures { core_of self.new ≡ turned_to (core_of self.old) state (lines_of self.old.buffer) }
     {
-        Core {
-            state,
-            place: self.place,
-            saved: self.saved,
-            depth: self.depth,
-            count: self.count,
-            buffer,
-        }
+        self.state = state;
     }
 
-    // The core once it has performed one more instruction of its block.
-    pub(super) fn performed(self, place: Place, depth: u32, buffer: Buffer) -> Core
-        requires pc_bound { place.pc ≤ pc_most self.state }
-        requires count_bound { self.count < count_most self.state }
-        ensures { core_of result ≡ performed (core_of self) place depth (lines_of buffer) }
+    // The core has performed one more instruction of its block.
+    pub(super) fn perform(&mut self, place: Place, depth: u32)
+        requires pc_bound { place.pc ≤ pc_most self.old.state }
+        requires count_bound { self.old.count < count_most self.old.state }
+        ensures { core_of self.new ≡ performed (core_of self.old) place depth (lines_of self.old.buffer) }
     {
-        Core {
-            state: self.state,
-            place,
-            saved: self.saved,
-            depth,
-            count: self.count + 1,
-            buffer,
-        }
+        self.place = place;
+        self.depth = depth;
+        self.count += 1;
     }
 }

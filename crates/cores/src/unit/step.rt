@@ -4,20 +4,18 @@ ghost use Rattle.program.specs.Programs.{instructions_of};
 ghost use Rattle.model.specs.Instructions.{outer_at, inner_at};
 ghost use Rattle.model.specs.Cores.{outcome};
 ghost use Rattle.cores.specs.Decisions.{outer_of, OnwardOuter, inner_of, OnwardInner};
-ghost use Rattle.cores.specs.Steps.{stepped_of};
 ghost use Rattle.cores.specs.Units.{core_of, scene_view, outcome_of};
 
 use super::Core;
-use super::outcomes::Stepped;
 use crate::decide::{Inner, Outer};
 use crate::scene::{Outcome, Scene};
-use answers::answer::Answer;
+use answers::answer::{Answer, Fault};
 use model::state::State;
 use program::program::Program;
 
 impl Core {
     // What the core's instruction comes to outside every block.
-    fn outside(&self, program: &Program, words: usize) -> Outer
+    fn outside(&self, program: &Program, words: usize) -> Result<Outer, Fault>
         ensures value { outer_of self.now.place result ≡ outer_at (instructions_of program.now) words self.now.place }
         ensures onward { OnwardOuter self.now.place words result }
     {
@@ -25,34 +23,28 @@ impl Core {
     }
 
     // What the core's instruction comes to inside its block.
-    fn inside(&self, program: &Program, words: usize) -> Inner
+    fn inside(&self, program: &Program, words: usize) -> Result<Inner, Fault>
         ensures value { inner_of self.now.place result ≡ inner_at (instructions_of program.now) words self.now.place self.now.depth self.now.count }
         ensures onward { OnwardInner self.now.place self.now.count words result }
     {
         Inner::of(self.ask(program), self.place, self.depth, self.count, words)
     }
 
-    // What a step comes to, by the core's state and its instruction.
-    fn by_state(self, program: &Program, scene: Scene) -> Stepped
-        ensures { stepped_of result ≡ outcome (scene_view (instructions_of program.now) scene) (core_of self) }
+    // One step, by the core's state and its instruction. Of the memory it looks only at the scene's word.
+    pub fn step(&mut self, program: &Program, scene: Scene) -> Outcome
+        ensures { outcome_of self.new result ≡ outcome (scene_view (instructions_of program.now) scene) (core_of self.old) }
     {
         match self.state {
             State::Bypass => self.in_bypass(self.outside(program, scene.words), scene),
             State::Transaction => self.in_transaction(self.inside(program, scene.words), scene),
             State::Commit => self.in_commit(scene),
-            State::Abort => self.rolled_back().becomes(scene, Answer::RolledBack),
+            State::Abort => {
+                self.roll_back();
+                self.becomes(scene, Answer::RolledBack)
+            }
             State::EarlyFlush => self.in_early_flush(scene),
             State::EarlyCommit => self.in_early_commit(self.inside(program, scene.words), scene),
             State::Stopped => self.becomes(scene, Answer::Stopped),
         }
-    }
-
-    // One step. Of the memory it looks only at the scene's word.
-    pub fn step(&mut self, program: &Program, scene: Scene) -> Outcome
-        ensures { outcome_of self.new result ≡ outcome (scene_view (instructions_of program.now) scene) (core_of self.old) }
-    {
-        let stepped = self.by_state(program, scene);
-        *self = stepped.core;
-        stepped.outcome
     }
 }

@@ -5,70 +5,66 @@ ghost use Rattle.model.specs.Lines.{holds};
 ghost use Rattle.model.specs.Cores.{early, with_line, closes, in_transaction};
 ghost use Rattle.cores.specs.Buffers.{lines_of};
 ghost use Rattle.cores.specs.Decisions.{inner_of, OnwardInner};
-ghost use Rattle.cores.specs.Steps.{stepped_of, scene_of, loads_line, stores_line};
-ghost use Rattle.cores.specs.Units.{core_of};
+ghost use Rattle.cores.specs.Steps.{scene_of, loads_line, stores_line};
+ghost use Rattle.cores.specs.Units.{core_of, outcome_of};
 
 use super::Core;
-use super::outcomes::Stepped;
 use crate::ask::{next, put};
-use crate::buffer::Buffer;
 use crate::decide::Inner;
-use crate::scene::Scene;
-use answers::answer::Answer;
+use crate::scene::{Outcome, Scene};
+use answers::answer::{Answer, Fault};
 use formats::entry::Mark;
 use formats::register::Register;
 use model::effect::Effect;
 use model::place::{Line, Place};
-use model::state::{State, Token};
+use model::state::State;
 
 impl Core {
     // The block takes the token now and goes on to write its dirty lines, if any; its instruction is not yet performed.
-    fn early(self, scene: Scene) -> Stepped
-        requires { self.state ≡ Transaction }
-        ensures { stepped_of result ≡ early (scene_of scene) (core_of self) }
+    fn early(&mut self, scene: Scene) -> Outcome
+        requires { self.old.state ≡ Transaction }
+        ensures { outcome_of self.new result ≡ early (scene_of scene) (core_of self.old) }
     {
-        match scene.token {
-            Token::Free => {
-                if self.buffer.any_dirty() {
-                    self.turned_to(State::EarlyFlush, self.buffer)
-                        .takes_token(scene, Answer::Early)
-                } else {
-                    self.turned_to(State::EarlyCommit, Buffer::new())
-                        .takes_token(scene, Answer::Early)
-                }
-            }
-            Token::Core(_) | Token::Host => self.becomes(scene, Answer::Waiting),
+        if scene.token_taken() {
+            return self.becomes(scene, Answer::Waiting);
         }
+        if self.buffer.any_dirty() {
+            self.turn_to(State::EarlyFlush);
+        } else {
+            self.buffer.clear();
+            self.turn_to(State::EarlyCommit);
+        }
+        self.takes_token(scene, Answer::Early)
     }
 
     // A new line is made, if there is room for it; if not the block takes the token.
-    fn with_line(self, scene: Scene, place: Place, line: Line) -> Stepped
-        requires state { self.state ≡ Transaction }
-        requires count_bound { self.count < 4096 }
+    fn with_line(&mut self, scene: Scene, place: Place, line: Line) -> Outcome
+        requires state { self.old.state ≡ Transaction }
+        requires count_bound { self.old.count < 4096 }
         requires pc_bound { place.pc ≤ 511 }
-        requires fresh { holds (lines_of self.buffer) line.address ≡ false }
-        ensures { stepped_of result ≡ with_line (scene_of scene) (core_of self) place line }
+        requires fresh { holds (lines_of self.old.buffer) line.address ≡ false }
+        ensures { outcome_of self.new result ≡ with_line (scene_of scene) (core_of self.old) place line }
     {
         if self.buffer.len() < scene.capacity {
-            self.performed(place, self.depth, self.buffer.with_line(line))
-                .becomes(scene, Answer::Running)
+            self.buffer.push(line);
+            self.perform(place, self.depth);
+            self.becomes(scene, Answer::Running)
         } else {
             self.early(scene)
         }
     }
 
     // A load: from the line at the address, or by a new line with the memory's word.
-    fn loads(self, scene: Scene, address: usize, d: Register) -> Stepped
-        requires state { self.state ≡ Transaction }
-        requires count_bound { self.count < 4096 }
-        requires pc_bound { self.place.pc < 511 }
-        ensures { stepped_of result ≡ loads_line scene (core_of self) address d }
+    fn loads(&mut self, scene: Scene, address: usize, d: Register) -> Outcome
+        requires state { self.old.state ≡ Transaction }
+        requires count_bound { self.old.count < 4096 }
+        requires pc_bound { self.old.place.pc < 511 }
+        ensures { outcome_of self.new result ≡ loads_line scene (core_of self.old) address d }
     {
-        match self.buffer.find(address) {
-            Some(index) => {
-                let place = put(self.place, d, self.buffer.line(index).value);
-                self.performed(place, self.depth, self.buffer)
-                    .becomes(scene, Answer::Running)
+        match self.buffer.value(address) {
+            Some(word) => {
+                self.perform(put(self.place, d, word), self.depth);
+                self.becomes(scene, Answer::Running)
             }
             None => {
                 let line = Line {
@@ -83,71 +79,64 @@ impl Core {
     }
 
     // A store: to the line at the address, or by a new line.
-    fn stores(self, scene: Scene, address: usize, word: u32) -> Stepped
-        requires state { self.state ≡ Transaction }
-        requires count_bound { self.count < 4096 }
-        requires pc_bound { self.place.pc < 511 }
-        ensures { stepped_of result ≡ stores_line scene (core_of self) address word }
+    fn stores(&mut self, scene: Scene, address: usize, word: u32) -> Outcome
+        requires state { self.old.state ≡ Transaction }
+        requires count_bound { self.old.count < 4096 }
+        requires pc_bound { self.old.place.pc < 511 }
+        ensures { outcome_of self.new result ≡ stores_line scene (core_of self.old) address word }
     {
-        match self.buffer.find(address) {
-            Some(index) => {
-                self.performed(
-                    next(self.place),
-                    self.depth,
-                    self.buffer.with_word(index, word),
-                )
-                .becomes(scene, Answer::Running)
-            }
-            None => {
-                let line = Line {
-                    address,
-                    value: word,
-                    tag: false,
-                    dirty: true,
-                };
-                self.with_line(scene, next(self.place), line)
-            }
+        if self.buffer.store(address, word) {
+            self.perform(next(self.place), self.depth);
+            self.becomes(scene, Answer::Running)
+        } else {
+            let line = Line {
+                address,
+                value: word,
+                tag: false,
+                dirty: true,
+            };
+            self.with_line(scene, next(self.place), line)
         }
     }
 
     // END of the first BEGIN, when the token is free: a block with nothing to write ends, another takes the token.
-    fn closes(self, scene: Scene) -> Stepped
-        requires count_bound { self.count < 4096 }
-        requires pc_bound { self.place.pc < 511 }
-        ensures { stepped_of result ≡ closes (scene_of scene) (core_of self) }
+    fn closes(&mut self, scene: Scene) -> Outcome
+        requires count_bound { self.old.count < 4096 }
+        requires pc_bound { self.old.place.pc < 511 }
+        ensures { outcome_of self.new result ≡ closes (scene_of scene) (core_of self.old) }
     {
         if self.buffer.any_dirty() {
-            self.turned_to(State::Commit, self.buffer)
-                .takes_token(scene, Answer::Committing)
+            self.turn_to(State::Commit);
+            self.takes_token(scene, Answer::Committing)
         } else {
             self.ends(scene, Effect::Nothing)
         }
     }
 
     // A step in TRANSACTION.
-    pub(super) fn in_transaction(self, inner: Inner, scene: Scene) -> Stepped
-        requires state { self.state ≡ Transaction }
-        requires onward { OnwardInner self.place self.count scene.words inner }
-        ensures { stepped_of result ≡ in_transaction (scene_of scene) (core_of self) (inner_of self.place inner) }
+    pub(super) fn in_transaction(&mut self, inner: Result<Inner, Fault>, scene: Scene) -> Outcome
+        requires state { self.old.state ≡ Transaction }
+        requires onward { OnwardInner self.old.place self.old.count scene.words inner }
+        ensures { outcome_of self.new result ≡ in_transaction (scene_of scene) (core_of self.old) (inner_of self.old.place inner) }
     {
         match inner {
-            Inner::Faults(fault) => match scene.token {
-                Token::Free => self.faulted(scene, Mark::Discarded, self.count, fault),
-                Token::Core(_) | Token::Host => self.becomes(scene, Answer::Waiting),
-            },
-            Inner::Moves { place, depth } => {
-                self.performed(place, depth, self.buffer)
-                    .becomes(scene, Answer::Running)
+            Err(_) | Ok(Inner::Closes) if scene.token_taken() => self.becomes(
+                scene,
+                Answer::Waiting,
+            ),
+            Err(fault) => self.faulted(scene, Mark::Discarded, self.count, fault),
+            Ok(Inner::Moves { place, depth }) => {
+                self.perform(place, depth);
+                self.becomes(scene, Answer::Running)
             }
-            Inner::Loads { address, d } => self.loads(scene, address, d),
-            Inner::Stores { address, word } => self.stores(scene, address, word),
-            Inner::Sends(_) => self.early(scene),
-            Inner::Closes => match scene.token {
-                Token::Free => self.closes(scene),
-                Token::Core(_) | Token::Host => self.becomes(scene, Answer::Waiting),
-            },
-            Inner::Restarts => self.rolled_back().becomes(scene, Answer::Retried),
-            Inner::TakesToken => self.early(scene),
+            Ok(Inner::Loads { address, d }) => self.loads(scene, address, d),
+            Ok(Inner::Stores { address, word }) => self.stores(scene, address, word),
+            Ok(Inner::Closes) => self.closes(scene),
+            Ok(Inner::Restarts) => {
+                self.roll_back();
+                self.becomes(scene, Answer::Retried)
+            }
+            Ok(Inner::Sends(_) | Inner::TakesToken) => self.early(scene),
         }
     }
 }

@@ -1,5 +1,5 @@
 use Rattle.cores.proofs.Tags.{Copied}
 use Rattle.cores.proofs.buffer.Buffer.tags.Given as goal
 
-abbrev pub invariant-loop-i : goal.invariant-loop-i
-invariant-loop-i l = Copied l.self.lines l.i l.initial.list l.list l.number
+abbrev pub invariant-loop-line : goal.invariant-loop-line
+invariant-loop-line l = Copied l.line-items l.line-index l.initial.list l.list l.number

@@ -1,40 +1,29 @@
-use Rattle.std.proofs.Common.{List, sym, ap, ◌∙◌, arith}
-use Rattle.answers.specs.declared.answer.Answer.TheVariants.{Running}
+use Rattle.std.proofs.Common.{◌≡◌, false, List, sym, ap, ◌∙◌}
 use Rattle.model.specs.declared.place.Line.{Line}
 use Rattle.model.specs.declared.place.Place.{Place}
 use Rattle.model.specs.Instructions.{past}
-use Rattle.model.specs.Lines.{stored_line}
-use Rattle.model.specs.Cores.{Core as ModelCore, becomes, performed, with_line}
+use Rattle.model.specs.Lines.{holds, stored_line}
+use Rattle.model.specs.Cores.{with_line}
 use Rattle.cores.specs.Buffers.{lines_of}
-use Rattle.cores.specs.Steps.{scene_of}
+use Rattle.cores.specs.Steps.{scene_of, stores_line}
 use Rattle.cores.specs.Units.{core_of}
-use Rattle.cores.proofs.Buffers.{not_held}
-use Rattle.cores.proofs.Steps.{store_found, store_new}
+use Rattle.cores.proofs.Buffers.{not_stored}
 use Rattle.cores.proofs.unit.Core.stores.Goals as goal
 
-pub with_line-requires : goal.with_line-requires
-with_line-requires c =
-    record {
-      state = c.requires.state;
-      count_bound = c.requires.count_bound;
-      pc_bound = omega (arith, ap (λ (p : Place). p.pc) c.next-in-None.ensures);
-      fresh = not_held (lines_of c.args.self.buffer) c.args.address (sym c.in-None.ensures);
-    }
+pub with_line-requires-clause-fresh : goal.with_line-requires-clause-fresh
+with_line-requires-clause-fresh c =
+    let none : holds (lines_of c.args.self.now.buffer) c.args.address ≡ false = sym c.store.ensures.held ∙ c.if-store.false in
+    ap (λ (ls : List Line). holds ls c.args.address) (c.store.ensures.lines ∙ not_stored _ _ _ none) ∙ none
 
-pub returns-in-Some : goal.returns-in-Some
-returns-in-Some c =
-    let core = c.args.self in
+pub returns-else-store : goal.returns-else-store
+returns-else-store c =
+    let core = core_of c.args.self.now in
     let s = c.args.scene in
-    c.becomes.ensures
-    ∙ ap (λ (x : ModelCore). becomes (scene_of s) x Running) c.performed.ensures
-    ∙ ap (λ (p : Place). becomes (scene_of s) (performed (core_of core) p core.depth (lines_of c.with_word.result)) Running) c.next.ensures
-    ∙ ap (λ (ls : List Line). becomes (scene_of s) (performed (core_of core) (past core.place) core.depth ls) Running) c.with_word.ensures
-    ∙ store_found s (core_of core) c.args.address c.args.word c.in-Some.index (sym c.in-Some.ensures)
-
-pub returns-in-None : goal.returns-in-None
-returns-in-None c =
-    let core = c.args.self in
-    let s = c.args.scene in
+    let line = stored_line c.args.address c.args.word in
+    let none : holds core.lines c.args.address ≡ false = sym c.store.ensures.held ∙ c.if-store.false in
+    let same : lines_of c.store.new.self ≡ core.lines = c.store.ensures.lines ∙ not_stored _ _ _ none in
+    let new : with_line (scene_of s) core (past core.place) line ≡ stores_line s core c.args.address c.args.word = rw none in
     c.with_line.ensures
-    ∙ ap (λ (p : Place). with_line (scene_of s) (core_of core) p (stored_line c.args.address c.args.word)) c.next-in-None.ensures
-    ∙ store_new s (core_of core) c.args.address c.args.word (sym c.in-None.ensures)
+    ∙ ap (λ (p : Place). with_line (scene_of s) (record core { lines = lines_of c.store.new.self }) p line) c.next-else-store.ensures
+    ∙ ap (λ (ls : List Line). with_line (scene_of s) (record core { lines = ls }) (past core.place) line) same
+    ∙ new

@@ -1,10 +1,10 @@
 use Rattle.std.proofs.Common.{◌∙◌, arith, length-set}
 use Rattle.cores.proofs.Buffers.{front_length, pushed, pushed_apart}
-use Rattle.cores.proofs.buffer.Buffer.with_line.Goals as goal
+use Rattle.cores.proofs.buffer.Buffer.push.Goals as goal
 
-pub invariant_of-result : goal.invariant_of-result
-invariant_of-result c =
-    let b = c.args.self in
+pub invariant_of-self : goal.invariant_of-self
+invariant_of-self c =
+    let b = c.args.self.now in
     let long = front_length b.lines b.used b.few b.sized in
     record {
       few = omega (arith, c.requires.room);
@@ -13,4 +13,4 @@ invariant_of-result c =
     }
 
 pub returns : goal.returns
-returns c = let b = c.args.self in pushed b.lines b.used b.few b.sized c.args.line c.requires.room
+returns c = let b = c.args.self.now in pushed b.lines b.used b.few b.sized c.args.line c.requires.room
