@@ -36,14 +36,13 @@ impl Table {
             return None;
         }
         let mut cores = Table::empty().cores;
-        for i in 0..places.len() {
-            let Some(core) = Core::at(places[i]) else {
-                return None;
-            };
-            cores[i] = core;
+        for (i, place) in places.iter().enumerate() {
+            cores[i] = Core::at(*place)?;
         }
-        let count = places.len();
-        Some(Table { cores, count })
+        Some(Table {
+            cores,
+            count: places.len(),
+        })
     }
 
     // A core has written the word at an address: the others are told.
@@ -60,9 +59,9 @@ impl Table {
 pub fn broadcast(cores: &mut [Core], writer: usize, address: usize)
     ensures { map core_of cores.new ≡ others_hit writer address (map core_of cores.old) }
 {
-    for i in 0..cores.len() {
+    for (i, core) in cores.iter_mut().enumerate() {
         if i != writer {
-            cores[i].strike(address);
+            core.strike(address);
         }
     }
 }
