@@ -98,11 +98,6 @@ pub not_stored : (ls : List Line) (a w : ℕ) → holds ls a ≡ false → store
 not_stored [] a w h = refl
 not_stored (l ∷ ls) a w h = let p = or_parts (eqb l.address a) (holds ls a) h in rw p.0 (ap (λ x. l ∷ x) (not_stored ls a w p.1))
 
--- where no line is, none is tagged
-pub untagged : (ls : List Line) (a : ℕ) → holds ls a ≡ false → tagged ls a ≡ false
-untagged [] a h = refl
-untagged (l ∷ ls) a h = let p = or_parts (eqb l.address a) (holds ls a) h in rw p.0 (untagged ls a p.1)
-
 -- the oldest dirty line
 pub record Oldest (ls : List Line) (i : ℕ) : Type 0 where
   pub within : i < length ls

@@ -10,7 +10,7 @@ use Rattle.model.specs.Calls.{tag_count, times}
 use Rattle.cores.specs.Distinct.{distinct}
 use Rattle.cores.specs.Buffers.{no_line, line_at, tags_of}
 use Rattle.cores.specs.Tags.{LineTags}
-use Rattle.cores.proofs.Buffers.{untagged}
+use Rattle.model.proofs.Lines.{untagged}
 
 -- one line more
 pub count_push : (ls : List Line) (l : Line) → tag_count (ls ++ l ∷ []) ≡ cond l.tag (tag_count ls + 1) (tag_count ls)

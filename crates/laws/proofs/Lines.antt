@@ -7,6 +7,7 @@ use Rattle.std.proofs.lemmas.Bool.Decides.{nat_tests}
 use Rattle.model.specs.declared.place.Line.{Line}
 use Rattle.model.specs.Lines.{holds, value_at, tagged, store_at, any_dirty, wrote, left}
 use Rattle.model.specs.Engine.{memory_after}
+use Rattle.model.proofs.Lines.{untagged}
 
 or_swap : (x y z : Bool) → (x || (y || z)) ≡ (y || (x || z))
 or_swap true true z = refl
@@ -78,13 +79,6 @@ Fit m (l ∷ ls) = Fits m l × (holds ls l.address ≡ false) × Fit m ls
 -- two memories have the same words where lines are tagged
 abbrev pub Agree : List Line → List ℕ → List ℕ → Type 0
 Agree ls m m' = (a : ℕ) → tagged ls a ≡ true → get_or m' a 0 ≡ get_or m a 0
-
--- a tag needs a line
-pub untagged : (ls : List Line) (a : ℕ) → holds ls a ≡ false → tagged ls a ≡ false
-untagged [] a h = refl
-untagged (l ∷ ls) a h =
-    let p = or_parts (eqb l.address a) (holds ls a) h in
-    rw p.0 (untagged ls a p.1)
 
 fits_set : (m : List ℕ) (l : Line) (a w : ℕ) → Fits m l → (eqb l.address a && l.tag) ≡ false → Fits (set m a w) l
 fits_set m l a w f h = record {

@@ -9,7 +9,8 @@ use Rattle.model.specs.declared.place.Line.{Line}
 use Rattle.model.specs.Lines.{holds, tagged, store_at, left, tags, Distinct}
 use Rattle.model.specs.Calls.{tag_count, times, TagsCopied, Tags}
 use Rattle.model.specs.Engine.{Engine, core_at}
-use Rattle.laws.proofs.Lines.{untagged, holds_append, holds_store_at}
+use Rattle.model.proofs.Lines.{untagged}
+use Rattle.laws.proofs.Lines.{holds_append, holds_store_at}
 
 -- lines stay at different addresses
 
