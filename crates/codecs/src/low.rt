@@ -11,10 +11,7 @@ pub(crate) fn low<const LIMIT: u32>(number: u32) -> Below<LIMIT>
     requires { 0 < LIMIT }
     ensures { (some : 0 < LIMIT) → result ≡ below LIMIT some number }
 {
-    match Below::new(number % LIMIT) {
-        Some(rest) => rest,
-        None => unreachable(),
-    }
+    Below::new(number % LIMIT).unwrap()
 }
 
 // The register of a three-bit field.

@@ -31,9 +31,7 @@ pub fn get(bytes: &[u8], slot: usize) -> SentEntry
     requires { slot < length bytes.now / 5 }
     ensures { result ≡ entry_in bytes.now slot }
 {
-    let Some(five) = bytes[5 * slot..].first_chunk::<5>() else {
-        unreachable();
-    };
+    let five = bytes[5 * slot..].first_chunk::<5>().unwrap();
     entry_of(*five)
 }
 
