@@ -1,9 +1,9 @@
 -- Reading a program, one instruction more.
 -- Assumes nothing.
-use Rattle.std.proofs.Common.{◌≡◌, ℕ, zero, suc, ◌+◌, ◌-◌, ◌/◌, ◌%◌, ◌<◌, ◌≤◌, true, false, ◌&&◌, eqb, leb, List, [], ◌∷◌, ◌++◌, length, get_or, take, set, Some, Ok, Err, Result, sym, refl, ap, ◌∙◌, subst, inl, inr, append_assoc, append-nil, add-one, arith, length-set, length-take-le, get_or-take, take-suc-set, ltb-true, lt-ltb, leb-true}
+use Rattle.std.proofs.Common.{◌≡◌, ℕ, zero, suc, ◌+◌, ◌-◌, ◌/◌, ◌%◌, ◌<◌, ◌≤◌, true, false, ◌&&◌, eqb, leb, List, [], ◌∷◌, ◌++◌, length, get_or, take, drop, replicate, set, Ok, Err, Result, sym, refl, ap, ◌∙◌, subst, inl, inr, append_assoc, append-nil, drop-drop, add-one, arith, length-set, length-take-le, get_or-take, take-suc-set, ltb-true, lt-ltb, leb-true}
 use native.Mathlib.Nat.{sub-zero}
 use Rattle.std.specs.Option.{unwrap_or}
-use Rattle.std.proofs.lemmas.List.{get_or_default, get_or_past}
+use Rattle.std.proofs.lemmas.List.{get_or_default, get_or_past, drop-set-lt, length-replicate}
 use Rattle.std.proofs.lemmas.Bool.{cases_Bool, cases_lt, cases_eq, le-ltb, both_ways, and_parts, and_from}
 use Rattle.answers.specs.declared.refusal.InstructionFault.{InstructionFault}
 use Rattle.answers.specs.declared.refusal.ListRefusal.{ListRefusal}
@@ -13,7 +13,7 @@ use Rattle.formats.specs.declared.instruction.Instruction.{Instruction}
 use Rattle.formats.specs.declared.instruction.Instruction.TheVariants.{Halt, Set, Add, Sub, Mean, Load, Store, Jump, Jz, Jlt, Begin, End, Retry, Early, Out}
 use Rattle.formats.specs.Instructions.{bytes_instruction}
 use Rattle.packed.specs.List.{entry_at}
-use Rattle.program.specs.Accepted.{target_inside, targets_inside, ends, last_of}
+use Rattle.program.specs.Accepted.{target_inside, targets_inside, ends, last_of, Accepted}
 use Rattle.program.specs.Programs.{instruction_in}
 use Rattle.program.specs.Reading.{good_count, in_program, instruction_at, followed_by, read_from, read_program}
 
@@ -72,6 +72,7 @@ pub record Sofar (count : ℕ) (bytes : List ℕ) (is : List Instruction) (place
   pub long : length is ≡ 512
   pub reads : read_from count count bytes 0 ≡ prepended (take place is) (read_from (count - place) count bytes place)
   pub targets : targets_inside count (take place is) ≡ true
+  pub blank : drop place is ≡ drop place (replicate 512 Halt)
 
 module _ (count : ℕ) (bytes : List ℕ) (is : List Instruction) (place : ℕ) (few : count ≤ 512) (sofar : Sofar count bytes is place) where
   -- one instruction more
@@ -84,6 +85,7 @@ module _ (count : ℕ) (bytes : List ℕ) (is : List Instruction) (place : ℕ) 
         long = length-set is place i ∙ sofar.long;
         reads = sofar.reads ∙ ap (λ k. prepended (take place is) (read_from k count bytes place)) left ∙ read_more (count - (place + 1)) count bytes place (take place is) i at ∙ ap (λ n. prepended (take place is ++ (i ∷ [])) (read_from (count - (place + 1)) count bytes n)) (sym (add-one place)) ∙ ap (λ f. prepended f (read_from (count - (place + 1)) count bytes (place + 1))) (sym front);
         targets = subst (λ f. targets_inside count f ≡ true) (sym front) (targets_push count (take place is) i sofar.targets (inside_from count place (entry_at 4 bytes_instruction bytes place) i at));
+        blank = drop-set-lt (place + 1) is place i (omega arith) ∙ sym (drop-drop 1 place is) ∙ ap (drop 1) sofar.blank ∙ drop-drop 1 place (replicate 512 Halt);
       }
 
   -- a refused instruction refuses the program
@@ -99,8 +101,8 @@ module _ (count : ℕ) (bytes : List ℕ) (is : List Instruction) (place : ℕ) 
       sofar.reads ∙ ap (λ k. prepended (take place is) (read_from k count bytes place)) none ∙ read_none count bytes place (take place is) ∙ ap (λ n. Ok (take n is)) all
 
 -- nothing is read yet
-pub sofar_none : (count : ℕ) (bytes : List ℕ) (is : List Instruction) → length is ≡ 512 → Sofar count bytes is 0
-sofar_none count bytes is long = record { long = long; reads = sym (unchanged (read_from count count bytes 0)) ∙ ap (λ k. prepended [] (read_from k count bytes 0)) (sym (sub-zero count)); targets = refl }
+pub sofar_none : (count : ℕ) (bytes : List ℕ) → Sofar count bytes (replicate 512 Halt) 0
+sofar_none count bytes = record { long = length-replicate 512 Halt; reads = sym (unchanged (read_from count count bytes 0)) ∙ ap (λ k. prepended [] (read_from k count bytes 0)) (sym (sub-zero count)); targets = refl; blank = refl }
   where
     unchanged : (r : Result (List Instruction) ProgramRefusal) → prepended [] r ≡ r
     unchanged (Ok rest) = refl
@@ -154,19 +156,18 @@ inside_at count (i ∷ is) zero t = (and_parts (target_inside count i) (targets_
 inside_at count (i ∷ is) (suc k) t = inside_at count is k (and_parts (target_inside count i) (targets_inside count is) t).1
 
 -- what holds of each instruction of an accepted program
-module _ (is : List Instruction) (count : ℕ) (few : count ≤ 512) (sized : length is ≡ 512) where
+module _ (is : List Instruction) (k : ℕ) (accepted : Accepted is) where
   -- its jump stays below 512
-  pub jumps_below : (k : ℕ) → targets_inside count (take count is) ≡ true → target_inside 512 (get_or (take count is) k Halt) ≡ true
-  jumps_below k t = inside_more count 512 few (get_or (take count is) k Halt) (inside_at count (take count is) k t)
+  pub jumps_below : target_inside 512 (get_or is k Halt) ≡ true
+  jumps_below = inside_more (length is) 512 accepted.few (get_or is k Halt) (inside_at (length is) is k accepted.targets)
 
   -- and there is a next place where it goes on
-  pub goes_on : (k : ℕ) → 0 < count → ends (last_of (take count is)) ≡ true → ends (get_or (take count is) k Halt) ≡ false → k < 511
-  goes_on k some last on =
-      let long = length-take-le count is (omega arith) in
-      elim (cases_lt k (count - 1)) [
-        | inl lt ↦ omega arith
-        | inr le ↦ absurd (both_ways (ends (get_or (take count is) k Halt)) on (elim (cases_eq k (length (take count is) - 1)) [
-          | inl e ↦ ap (λ n. ends (get_or (take count is) n Halt)) e ∙ last
-          | inr ne ↦ ap ends (get_or_past (take count is) k Halt (omega arith))
+  pub goes_on : ends (get_or is k Halt) ≡ false → k < 511
+  goes_on on =
+      elim (cases_lt k (length is - 1)) [
+        | inl lt ↦ let few = accepted.few in omega arith
+        | inr le ↦ absurd (both_ways (ends (get_or is k Halt)) on (elim (cases_eq k (length is - 1)) [
+          | inl e ↦ ap (λ n. ends (get_or is n Halt)) e ∙ accepted.last
+          | inr ne ↦ ap ends (get_or_past is k Halt (omega arith))
         ]))
       ]

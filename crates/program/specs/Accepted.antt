@@ -1,6 +1,6 @@
 -- What an accepted program is.
 -- Assumes nothing.
-use Rattle.std.specs.Prelude.{ℕ, ◌-◌, Bool, true, false, ◌&&◌, List, [], ◌∷◌, length, nat_lt, slice_index_or}
+use Rattle.std.specs.Prelude.{◌≡◌, ℕ, ◌-◌, ◌<◌, ◌≤◌, Bool, true, false, ◌&&◌, List, [], ◌∷◌, length, nat_lt, slice_index_or}
 use Rattle.formats.specs.declared.instruction.Instruction.{Instruction}
 use Rattle.formats.specs.declared.instruction.Instruction.TheVariants.{Halt, Set, Add, Sub, Mean, Load, Store, Jump, Jz, Jlt, Begin, End, Retry, Early, Out}
 
@@ -48,3 +48,10 @@ ends (Out a channel) = false
 -- the last instruction of a list
 abbrev pub last_of : List Instruction → Instruction
 last_of is = slice_index_or is (length is - 1) Halt
+
+-- an accepted program: one to 512 instructions, each jump leads to one of them, and the last is HALT or JUMP
+pub record Accepted (is : List Instruction) : Type 0 where
+  pub some : 0 < length is
+  pub few : length is ≤ 512
+  pub targets : targets_inside (length is) is ≡ true
+  pub last : ends (last_of is) ≡ true

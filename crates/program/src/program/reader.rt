@@ -1,7 +1,6 @@
 // Reading a program from bytes: the byte count first, then each instruction in turn, then the last one.
 ghost use Rattle.std.specs.Prelude.{◌≡◌};
 ghost use Rattle.program.specs.Accepted.{target_inside, ends};
-ghost use Rattle.program.specs.Programs.{as_list};
 ghost use Rattle.program.specs.Reading.{good_count, instruction_at, read_program};
 
 use super::Program;
@@ -53,7 +52,7 @@ fn instruction_at(count: usize, bytes: &[u8], place: usize) -> Result<Instructio
 impl Program {
     // The program that the bytes hold, or the first refusal with the number of its instruction.
     pub fn read(bytes: &[u8]) -> Result<Program, ProgramRefusal>
-        ensures { as_list result ≡ read_program bytes.now }
+        ensures { result ≡ read_program bytes.now }
     {
         if !good_count(bytes.len()) {
             return Err(ProgramRefusal {
