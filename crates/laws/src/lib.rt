@@ -5,50 +5,36 @@
 ghost use Rattle.model.specs.Laws.{Serial, RollBack, HeldRead, Observed, Played, TagsServed, Laws};
 
 // Whenever no core has the token, the record, run one turn at a time from the last clearing, explains memory, cores and sent words.
-pub fn serial_holds() -> u8
+pub fn serial_holds()
     ensures { Serial }
-{
-    0
-}
+{}
 
 // A core that moves answers "rolled back" exactly when it has an open block and another core has written a word that the block had taken.
-pub fn roll_back_holds() -> u8
+pub fn roll_back_holds()
     ensures { RollBack }
-{
-    0
-}
+{}
 
 // A read answers the word that the one-at-a-time machine has there after the entries present when the hold began.
-pub fn held_read_holds() -> u8
+pub fn held_read_holds()
     ensures { HeldRead }
-{
-    0
-}
+{}
 
 // What an observer sees of a call is all that happens to memory and outlet.
-pub fn observation_holds() -> u8
+pub fn observation_holds()
     ensures { Observed }
-{
-    0
-}
+{}
 
 // The engine that the laws speak of is the new engine after its calls.
-pub fn played_holds() -> u8
+pub fn played_holds()
     ensures { Played }
-{
-    0
-}
+{}
 
 // The lines of a core are at different addresses, and its tags can always be copied, each once.
-pub fn tags_can_be_served() -> u8
+pub fn tags_can_be_served()
     ensures { TagsServed }
-{
-    0
-}
+{}
 
 // All three, at every point of every list of calls.
-pub fn laws_hold() -> u8
+pub fn laws_hold()
     ensures { Laws }
-{
-    0
-}
+{}

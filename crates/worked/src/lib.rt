@@ -9,30 +9,22 @@ ghost use Rattle.worked.specs.Witnesses.{Witnesses};
 
 // The worked examples, together: words and entries packed, programs read or refused; a mean, a fault, two counters, a block
 // that outgrows its line.
-pub fn worked_examples_hold() -> u8
+pub fn worked_examples_hold()
     ensures packed { Packed }
     ensures worked { Worked }
-{
-    0
-}
+{}
 
 // A roll-back, an early commit, a fault with each mark, sent words, and reads between commits.
-pub fn witness_runs_hold() -> u8
+pub fn witness_runs_hold()
     ensures { Witnesses }
-{
-    0
-}
+{}
 
 // What passes at each limit, and what is refused or faults past it.
-pub fn limits_hold() -> u8
+pub fn limits_hold()
     ensures { Limits }
-{
-    0
-}
+{}
 
 // Random runs, and what a simulator in another language says of each.
-pub fn comparison_holds() -> u8
+pub fn comparison_holds()
     ensures { Compared }
-{
-    0
-}
+{}
