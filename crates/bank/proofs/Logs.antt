@@ -1,26 +1,10 @@
--- The entries of the record, one more and one by its place.
+-- An entry of the record by its place.
 -- Assumes nothing.
-use Rattle.std.proofs.Common.{◌≡◌, ℕ, zero, suc, ◌+◌, ◌<◌, ◌≤◌, List, [], ◌∷◌, map, length, get_or, take, set, Some, Ok, Err, sym, refl, ap, ◌∙◌, le_of_suc-le-suc, add-one, arith, length-take-le, get_or-take, take-suc-set, le-ltb, lt-ltb}
-use Rattle.std.proofs.lemmas.List.{length-map, map-append}
+use Rattle.std.proofs.Common.{◌≡◌, ℕ, zero, suc, ◌<◌, ◌≤◌, List, [], ◌∷◌, map, length, get_or, take, Ok, Err, sym, refl, ap, ◌∙◌, le_of_suc-le-suc, arith, length-take-le, get_or-take}
 use Rattle.formats.specs.declared.entry.RecordEntry.{RecordEntry}
 use Rattle.model.specs.declared.refusal.RecordRefusal.TheVariants.{NotFilled}
 use Rattle.model.specs.Calls.{entry_in}
 use Rattle.cores.specs.Units.{turn_of}
-use Rattle.bank.specs.Logs.{recorded}
-
--- the record has as many entries as are in use
-pub turns_length : (es : List RecordEntry) (n : ℕ) → n ≤ length es → length (map turn_of (take n es)) ≡ n
-turns_length es n h = length-map (take n es) turn_of ∙ length-take-le n es h
-
--- one more
-pub turns_more : (es : List RecordEntry) (n : ℕ) (e : RecordEntry) → n < 1024 → length es ≡ 1024 → map turn_of (take (n + 1) (set es n e)) ≡ recorded (map turn_of (take n es)) (Some e)
-turns_more es n e h long =
-    let t = lt-ltb (length (map turn_of (take n es))) 1024 (omega (arith, turns_length es n (omega arith))) in
-    rw t (ap (map turn_of) (ap (λ k. take k (set es n e)) (add-one n) ∙ take-suc-set es n e (omega arith)) ∙ map-append turn_of (take n es) (e ∷ []))
-
--- a full record stays as it is
-pub turns_full : (es : List RecordEntry) (n : ℕ) (e : RecordEntry) → 1024 ≤ n → n ≤ length es → map turn_of (take n es) ≡ recorded (map turn_of (take n es)) (Some e)
-turns_full es n e h k = rw (le-ltb (length (map turn_of (take n es))) 1024 (omega (arith, turns_length es n k)))
 
 entry_at : (es : List RecordEntry) (i : ℕ) (x : RecordEntry) → i < length es → entry_in (map turn_of es) i ≡ Ok (turn_of (get_or es i x))
 entry_at [] i x h = absurd (omega arith)

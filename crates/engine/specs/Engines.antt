@@ -17,7 +17,6 @@ use Rattle.model.specs.declared.call.Reply.{Reply}
 use Rattle.model.specs.declared.state.Token.{Token}
 use Rattle.model.specs.declared.state.Token.TheVariants.{Free, Core as CoreHas, Host}
 use Rattle.model.specs.Engine.{Engine as ModelEngine, Outlet as ModelOutlet, Settings}
-use Rattle.bank.specs.Logs.{turns_of}
 use Rattle.bank.specs.Tables.{cores_of}
 use Rattle.engine.specs.declared.engine.Engine.{Engine}
 use Rattle.engine.specs.declared.pass.Pass.{Pass}
@@ -35,7 +34,7 @@ engine_of m o e = record {
   outlet = outlet_of o e.outlet;
   cores = cores_of e.table;
   token = e.token;
-  entries = turns_of e.log;
+  entries = e.log;
   next = e.next;
 }
 

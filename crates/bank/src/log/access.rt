@@ -1,7 +1,7 @@
 // Adding to the record, looking at it and emptying it.
 ghost use Rattle.std.specs.Prelude.{◌≡◌, ◌≤◌, [], length};
 ghost use Rattle.model.specs.Calls.{entry_in};
-ghost use Rattle.bank.specs.Logs.{turns_of, recorded, as_turn};
+ghost use Rattle.bank.specs.Logs.{recorded, as_turn};
 
 use super::Log;
 use formats::below::{CoreNumber, UnitCount};
@@ -11,7 +11,7 @@ use model::refusal::RecordRefusal;
 impl Log {
     // An empty record.
     pub fn new() -> Log
-        ensures { turns_of result ≡ [] }
+        ensures { result ≡ [] }
     {
         let Some(core) = CoreNumber::new(0) else {
             unreachable();
@@ -32,7 +32,7 @@ impl Log {
 
     // How many entries it has, at most 1,024.
     pub fn len(&self) -> usize
-        ensures value { result ≡ length (turns_of self.now) }
+        ensures value { result ≡ length self.now }
         ensures bound { result ≤ 1024 }
     {
         let filled = self.len;
@@ -41,21 +41,20 @@ impl Log {
 
     // Adds an entry, if there is one and room for it.
     pub fn add(&mut self, entry: Option<RecordEntry>)
-        ensures { turns_of self.new ≡ recorded (turns_of self.old) entry }
+        ensures { self.new ≡ recorded self.old entry }
     {
         let Some(entry) = entry else {
             return;
         };
-        let at = self.len;
-        if at < 1024 {
-            self.entries[at] = entry;
-            self.len = at + 1;
+        if self.len < 1024 {
+            self.entries[self.len] = entry;
+            self.len += 1;
         }
     }
 
     // The entry at a place, or the refusal where the place is not filled.
     pub fn get(&self, place: usize) -> Result<RecordEntry, RecordRefusal>
-        ensures { as_turn result ≡ entry_in (turns_of self.now) place }
+        ensures { as_turn result ≡ entry_in self.now place }
     {
         if place < self.len {
             Ok(self.entries[place])
@@ -66,7 +65,7 @@ impl Log {
 
     // Empties the record.
     pub fn clear(&mut self)
-        ensures { turns_of self.new ≡ [] }
+        ensures { self.new ≡ [] }
     {
         self.len = 0;
     }
