@@ -4,12 +4,21 @@ ghost use Rattle.cores.specs.Units.{core_of};
 ghost use Rattle.bank.specs.Tables.{cores_of, placeable, NewTable, others_hit};
 
 use cores::unit::Core;
+use std::array;
 
 // Eight cores, of which the first `count` are in use.
-#[derive(Clone, Copy)]
+#[derive(Drop)]
 pub struct Table {
     pub cores: [Core; 8],
     pub count: usize,
+}
+
+// What stands where no core is in use.
+fn unused() -> Core {
+    match Core::at(0) {
+        Some(core) => core,
+        None => unreachable(),
+    }
 }
 
 impl Table {
@@ -19,11 +28,8 @@ impl Table {
         ensures cores { cores_of result ≡ [] }
         ensures sized { length result.cores ≡ 8 }
     {
-        let Some(unused) = Core::at(0) else {
-            unreachable();
-        };
         Table {
-            cores: [unused; 8],
+            cores: array::from_fn(|_| unused()),
             count: 0,
         }
     }

@@ -1,6 +1,6 @@
 -- What a line that was found tells of the lines, and lines that stay at different addresses.
 -- Assumes nothing.
-use Rattle.std.proofs.Common.{◌≡◌, ℕ, zero, suc, ◌+◌, ◌<◌, ◌≤◌, Bool, true, false, cond, not, ltb, eqb, ◌&&◌, List, [], ◌∷◌, ◌++◌, length, take, set, Some, None, Option, sym, refl, ap, ◌∙◌, subst, inl, inr, arith, lt-ltb, le-ltb}
+use Rattle.std.proofs.Common.{◌≡◌, ℕ, zero, suc, ◌+◌, ◌<◌, Bool, true, false, cond, not, ltb, eqb, ◌&&◌, List, [], ◌∷◌, ◌++◌, length, take, set, Some, None, Option, sym, refl, ap, ◌∙◌, subst, inl, inr, arith, lt-ltb, le-ltb, length-set}
 use Rattle.std.specs.List.{position, position_or_len, find, list_any, count_by}
 use Rattle.std.specs.Option.{option_map}
 use Rattle.std.proofs.lemmas.Bool.{cases_Bool, cond-false, ltb-true, ltb-false, and_parts, and_from, or_parts, not-true, not_from_false}
@@ -11,7 +11,7 @@ use Rattle.model.specs.declared.place.Line.{Line}
 use Rattle.model.specs.declared.effect.Effect.TheVariants.{Nothing, Wrote}
 use Rattle.model.specs.Lines.{holds, value_at, tagged, restored, store_at, any_dirty, cleaned, wrote, left}
 use Rattle.model.specs.Calls.{tag_count}
-use Rattle.cores.specs.Distinct.{distinct}
+use Rattle.cores.specs.Distinct.{distinct, Fits}
 use Rattle.cores.specs.Buffers.{index_of, dirty_index, no_line, line_at}
 
 -- the model's words in the library's
@@ -176,28 +176,33 @@ take_set_front (suc n) (y ∷ xs) zero x = refl
 take_set_front (suc n) (y ∷ xs) (suc i) x = ap (λ ys. y ∷ ys) (take_set_front n xs i x)
 
 -- the lines in use are the front of an array
-module _ (lines : List Line) (used : ℕ) (few : used ≤ 32) (sized : length lines ≡ 32) where
-  pub front_length : length (take used lines) ≡ used
-  front_length = length-take-le used lines (omega arith)
+module _ (lines : List Line) (used : ℕ) (ls : List Line) (fits : Fits lines used) (seen : take used lines ≡ ls) where
+  front_length : length ls ≡ used
+  front_length = sym (ap length seen) ∙ length-take-le used lines (omega (arith, fits.few, fits.sized))
+
+  pub same_line : (i : ℕ) → i < length ls → line_at lines i ≡ line_at ls i
+  same_line i h = sym (get_or-take used lines i no_line (omega (arith, front_length))) ∙ ap (λ xs. line_at xs i) seen
 
   -- a line in use changes
-  pub changed : (f : Line → Line) (i : ℕ) → i < used → take used (set lines i (f (line_at lines i))) ≡ set (take used lines) i (f (line_at (take used lines) i))
-  changed f i h = take_set_front used lines i (f (line_at lines i)) ∙ ap (λ l. set (take used lines) i (f l)) (sym (get_or-take used lines i no_line h))
+  pub changed : (f : Line → Line) (i : ℕ) → i < length ls → take used (set lines i (f (line_at lines i))) ≡ set ls i (f (line_at ls i))
+  changed f i h =
+      take_set_front used lines i (f (line_at lines i)) ∙ ap (λ xs. set xs i (f (line_at lines i))) seen ∙ ap (λ l. set ls i (f l)) (same_line i h)
 
   -- and stays where it is
-  pub changed_apart : (f : Line → Line) (i : ℕ) → i < used → ((l : Line) → (f l).address ≡ l.address) → distinct (take used lines) ≡ true → distinct (take used (set lines i (f (line_at lines i)))) ≡ true
-  changed_apart f i h same d = ap distinct (changed f i h) ∙ distinct_set (take used lines) i _ (same _) d
+  pub changed_fits : (f : Line → Line) (i : ℕ) → i < length ls → ((l : Line) → (f l).address ≡ l.address) → Fits (set lines i (f (line_at lines i))) used
+  changed_fits f i h same = record {
+    few = fits.few;
+    sized = length-set lines i (f (line_at lines i)) ∙ fits.sized;
+    apart = ap distinct (changed f i h) ∙ distinct_set ls i _ (same _) (ap distinct (sym seen) ∙ fits.apart);
+  }
 
   -- one line more
-  pub pushed : (k : Line) → length (take used lines) < 32 → take (used + 1) (set lines used k) ≡ take used lines ++ k ∷ []
-  pushed k h = let long = front_length in take_more_set lines used k (omega arith)
+  pub pushed : (k : Line) → length ls < 32 → take (used + 1) (set lines used k) ≡ ls ++ k ∷ []
+  pushed k h = take_more_set lines used k (omega (arith, front_length, fits.sized)) ∙ ap (λ xs. xs ++ k ∷ []) seen
 
-  pub pushed_apart : (k : Line) → length (take used lines) < 32 → holds (take used lines) k.address ≡ false → distinct (take used lines) ≡ true → distinct (take (used + 1) (set lines used k)) ≡ true
-  pushed_apart k h n d = ap distinct (pushed k h) ∙ distinct_push (take used lines) k n d
-
-  -- a line that was found stands among those in use
-  pub found_front : (a i : ℕ) → index_of (take used lines) a ≡ Some i → i < used
-  found_front a i h = let f = found (take used lines) a i h in omega (arith, f.within, front_length)
-
-  pub oldest_front : (i : ℕ) → dirty_index (take used lines) ≡ Some i → i < used
-  oldest_front i h = let f = oldest (take used lines) i h in omega (arith, f.within, front_length)
+  pub pushed_fits : (k : Line) → length ls < 32 → holds ls k.address ≡ false → Fits (set lines used k) (used + 1)
+  pushed_fits k h n = record {
+    few = omega (arith, front_length);
+    sized = length-set lines used k ∙ fits.sized;
+    apart = ap distinct (pushed k h) ∙ distinct_push ls k n (ap distinct (sym seen) ∙ fits.apart);
+  }

@@ -1,15 +1,9 @@
--- The write buffer as the list of its lines.
---   lines_of     the lines in use, oldest first
+-- The lines of a write buffer.
 --   index_of     where the line at an address stands;  dirty_index  where the oldest dirty line stands
 --   line_at      the line at a place of the list;  tags_of  the addresses of the tagged lines
 -- Assumes nothing.
-use Rattle.std.specs.Prelude.{ℕ, false, cond, List, [], ◌∷◌, take, Option, nat_eq, position, slice_index_or}
+use Rattle.std.specs.Prelude.{ℕ, false, cond, List, [], ◌∷◌, Option, nat_eq, position, slice_index_or}
 use Rattle.model.specs.declared.place.Line.{Line}
-use Rattle.cores.specs.declared.buffer.Buffer.{Buffer}
-
--- the lines in use, oldest first
-abbrev pub lines_of : Buffer → List Line
-lines_of b = take b.used b.lines
 
 -- where the line at an address stands
 abbrev pub index_of : List Line → ℕ → Option ℕ

@@ -14,11 +14,10 @@ use Rattle.model.specs.Cores.{View, Core as ModelCore, Outcome as ModelOutcome}
 use Rattle.cores.specs.declared.scene.Scene.{Scene}
 use Rattle.cores.specs.declared.scene.Outcome.{Outcome}
 use Rattle.cores.specs.declared.unit.Core.{Core}
-use Rattle.cores.specs.Buffers.{lines_of}
 
 -- a core
 abbrev pub core_of : Core → ModelCore
-core_of c = record { state = c.state; place = c.place; saved = c.saved; depth = c.depth; count = c.count; lines = lines_of c.buffer }
+core_of c = record { state = c.state; place = c.place; saved = c.saved; depth = c.depth; count = c.count; lines = c.buffer }
 
 -- an entry of the record
 abbrev pub turn_of : RecordEntry → Turn

@@ -16,7 +16,7 @@ mod step;
 mod transaction;
 
 // State, place, saved place, open BEGINs, instructions performed in the block, and the write buffer.
-#[derive(Clone, Copy)]
+#[derive(Drop)]
 pub struct Core {
     state: State,
     place: Place,

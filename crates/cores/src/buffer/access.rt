@@ -1,7 +1,8 @@
 // Looking up the lines of a write buffer.
-ghost use Rattle.std.specs.Prelude.{◌≡◌, [], if◌then◌else◌, length};
+ghost use Rattle.std.specs.Prelude.{◌≡◌, ◌≤◌, true, [], if◌then◌else◌, length};
 ghost use Rattle.model.specs.Lines.{holds, value_at, tagged, any_dirty};
-ghost use Rattle.cores.specs.Buffers.{lines_of, index_of, dirty_index};
+ghost use Rattle.cores.specs.Buffers.{index_of, dirty_index};
+ghost use Rattle.cores.specs.Distinct.{distinct};
 
 use super::Buffer;
 use model::place::Line;
@@ -9,7 +10,7 @@ use model::place::Line;
 impl Buffer {
     // A buffer with no line in use.
     pub fn new() -> Buffer
-        ensures { lines_of result ≡ [] }
+        ensures { result ≡ [] }
     {
         let unused = Line {
             address: 0,
@@ -25,35 +26,37 @@ impl Buffer {
 
     // The lines in use, oldest first.
     pub(super) fn lines(&self) -> &[Line]
-        ensures { result.now ≡ lines_of self.now }
+        ensures value { result.now ≡ self.now }
+        ensures few { length self.now ≤ 32 }
+        ensures apart { distinct self.now ≡ true }
     {
         &self.lines[..self.used]
     }
 
     // How many lines are in use.
     pub fn len(&self) -> usize
-        ensures { result ≡ length (lines_of self.now) }
+        ensures { result ≡ length self.now }
     {
         self.used
     }
 
     // Where the line at an address stands, or None where there is none.
     pub(super) fn find(&self, address: usize) -> Option<usize>
-        ensures { result ≡ index_of (lines_of self.now) address }
+        ensures { result ≡ index_of self.now address }
     {
         self.lines().iter().position(|line| line.address == address)
     }
 
     // Where the oldest dirty line stands, or None where no line is dirty.
     pub(super) fn first_dirty(&self) -> Option<usize>
-        ensures { result ≡ dirty_index (lines_of self.now) }
+        ensures { result ≡ dirty_index self.now }
     {
         self.lines().iter().position(|line| line.dirty)
     }
 
     // The value of the line at an address, or None where there is none.
     pub fn value(&self, address: usize) -> Option<u32>
-        ensures { result ≡ (if holds (lines_of self.now) address then Some (value_at (lines_of self.now) address) else None) }
+        ensures { result ≡ (if holds self.now address then Some (value_at self.now address) else None) }
     {
         self.lines()
             .iter()
@@ -63,14 +66,14 @@ impl Buffer {
 
     // Whether a line is dirty.
     pub fn any_dirty(&self) -> bool
-        ensures { result ≡ any_dirty (lines_of self.now) }
+        ensures { result ≡ any_dirty self.now }
     {
         self.lines().iter().any(|line| line.dirty)
     }
 
     // Whether there is a line at an address with its read tag set.
     pub fn tagged(&self, address: usize) -> bool
-        ensures { result ≡ tagged (lines_of self.now) address }
+        ensures { result ≡ tagged self.now address }
     {
         self.lines()
             .iter()

@@ -1,7 +1,6 @@
 // Making, changing and flushing the lines of a write buffer, and emptying it.
 ghost use Rattle.std.specs.Prelude.{◌≡◌, ◌<◌, false, [], ◌∷◌, ◌++◌, length};
 ghost use Rattle.model.specs.Lines.{holds, store_at, wrote, left};
-ghost use Rattle.cores.specs.Buffers.{lines_of};
 
 use super::Buffer;
 use model::effect::Effect;
@@ -10,9 +9,9 @@ use model::place::Line;
 impl Buffer {
     // Makes one more line, at an address that has none.
     pub(crate) fn push(&mut self, line: Line)
-        requires room { length (lines_of self.old) < 32 }
-        requires fresh { holds (lines_of self.old) line.address ≡ false }
-        ensures { lines_of self.new ≡ lines_of self.old ++ line ∷ [] }
+        requires room { length self.old < 32 }
+        requires fresh { holds self.old line.address ≡ false }
+        ensures { self.new ≡ self.old ++ line ∷ [] }
     {
         self.lines[self.used] = line;
         self.used += 1;
@@ -20,8 +19,8 @@ impl Buffer {
 
     // Puts another word into the line at an address, which is dirty then; its tag stays as it is. Answers whether there is one.
     pub fn store(&mut self, address: usize, value: u32) -> bool
-        ensures held { result ≡ holds (lines_of self.old) address }
-        ensures lines { lines_of self.new ≡ store_at (lines_of self.old) address value }
+        ensures held { result ≡ holds self.old address }
+        ensures lines { self.new ≡ store_at self.old address value }
     {
         let Some(index) = self.find(address) else {
             return false;
@@ -36,8 +35,8 @@ impl Buffer {
 
     // Writes out the oldest dirty line, which is dirty no more; answers the write, and nothing where no line is dirty.
     pub fn flush(&mut self) -> Effect
-        ensures effect { result ≡ wrote (lines_of self.old) }
-        ensures lines { lines_of self.new ≡ left (lines_of self.old) }
+        ensures effect { result ≡ wrote self.old }
+        ensures lines { self.new ≡ left self.old }
     {
         let Some(index) = self.first_dirty() else {
             return Effect::Nothing;
@@ -55,7 +54,7 @@ impl Buffer {
 
     // Empties the buffer: no line is in use.
     pub fn clear(&mut self)
-        ensures { lines_of self.new ≡ [] }
+        ensures { self.new ≡ [] }
     {
         self.used = 0;
     }

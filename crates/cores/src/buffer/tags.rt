@@ -1,7 +1,6 @@
 // Copying the read tags of a write buffer.
 ghost use Rattle.std.specs.Prelude.{◌≡◌};
 ghost use Rattle.model.specs.Calls.{tag_count};
-ghost use Rattle.cores.specs.Buffers.{lines_of};
 ghost use Rattle.cores.specs.Tags.{LineTags};
 
 use super::Buffer;
@@ -10,14 +9,14 @@ use model::refusal::TagsRefusal;
 impl Buffer {
     // How many lines are tagged.
     pub fn tag_count(&self) -> usize
-        ensures { result ≡ tag_count (lines_of self.now) }
+        ensures { result ≡ tag_count self.now }
     {
         self.lines().iter().filter(|line| line.tag).count()
     }
 
     // Copies the tagged addresses to the first places of a list and answers their number.
     pub fn tags(&self, list: &mut [usize]) -> Result<usize, TagsRefusal>
-        ensures { LineTags (lines_of self.now) list.old list.new result }
+        ensures { LineTags self.now list.old list.new result }
     {
         if self.tag_count() > list.len() {
             return Err(TagsRefusal::TooShort);

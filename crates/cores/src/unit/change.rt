@@ -2,7 +2,6 @@
 ghost use Rattle.std.specs.Prelude.{◌≡◌, ◌<◌, ◌≤◌};
 ghost use Rattle.model.specs.Cores.{resting, turned_to, performed, rolled_back};
 ghost use Rattle.cores.specs.Bounds.{pc_most, count_most};
-ghost use Rattle.cores.specs.Buffers.{lines_of};
 ghost use Rattle.cores.specs.Units.{core_of};
 
 use super::Core;
@@ -33,7 +32,7 @@ impl Core {
     pub(super) fn turn_to(&mut self, state: State)
         requires pc_bound { self.old.place.pc ≤ pc_most state }
         requires count_bound { self.old.count ≤ count_most state }
-        ensures { core_of self.new ≡ turned_to (core_of self.old) state (lines_of self.old.buffer) }
+        ensures { core_of self.new ≡ turned_to (core_of self.old) state self.old.buffer }
     {
         self.state = state;
     }
@@ -42,7 +41,7 @@ impl Core {
     pub(super) fn perform(&mut self, place: Place, depth: u32)
         requires pc_bound { place.pc ≤ pc_most self.old.state }
         requires count_bound { self.old.count < count_most self.old.state }
-        ensures { core_of self.new ≡ performed (core_of self.old) place depth (lines_of self.old.buffer) }
+        ensures { core_of self.new ≡ performed (core_of self.old) place depth self.old.buffer }
     {
         self.place = place;
         self.depth = depth;

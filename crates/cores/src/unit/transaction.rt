@@ -3,7 +3,6 @@ ghost use Rattle.std.specs.Prelude.{◌≡◌, ◌<◌, ◌≤◌, false};
 ghost use Rattle.model.specs.declared.state.State.TheVariants.{Transaction};
 ghost use Rattle.model.specs.Lines.{holds};
 ghost use Rattle.model.specs.Cores.{early, with_line, closes, in_transaction};
-ghost use Rattle.cores.specs.Buffers.{lines_of};
 ghost use Rattle.cores.specs.Decisions.{inner_of, OnwardInner};
 ghost use Rattle.cores.specs.Steps.{scene_of, loads_line, stores_line};
 ghost use Rattle.cores.specs.Units.{core_of, outcome_of};
@@ -42,7 +41,7 @@ impl Core {
         requires state { self.old.state ≡ Transaction }
         requires count_bound { self.old.count < 4096 }
         requires pc_bound { place.pc ≤ 511 }
-        requires fresh { holds (lines_of self.old.buffer) line.address ≡ false }
+        requires fresh { holds self.old.buffer line.address ≡ false }
         ensures { outcome_of self.new result ≡ with_line (scene_of scene) (core_of self.old) place line }
     {
         if self.buffer.len() < scene.capacity {

@@ -1,8 +1,6 @@
 use Rattle.std.proofs.Common.{◌≡◌, ℕ, ◌<◌, List, length, subst, ap, arith}
 use Rattle.model.specs.declared.place.Line.{Line}
 use Rattle.model.specs.Calls.{tag_count}
-use Rattle.cores.specs.Buffers.{lines_of}
-use Rattle.cores.proofs.Buffers.{front_length}
 use Rattle.cores.proofs.Tags.{Copied, copied_none, copied_tagged, copied_plain, copied_all, place_left, count_few}
 use Rattle.cores.proofs.buffer.Buffer.tags.Goals as goal
 use Rattle.cores.proofs.buffer.Buffer.tags.Goals.{Then-line, then-line, else-line}
@@ -14,13 +12,12 @@ loop-line-init c = copied_none _ c.args.list.now
 pub bounds-list-number : goal.bounds-list-number
 bounds-list-number c =
     place_left c.lines-line-items.result.now c.loop-line.line-index c.args.list.now c.loop-line.list c.loop-line.number c.loop-line.invariant c.loop-line-test.true c.if-line.true
-    (omega (arith, c.tag_count.ensures, c.if-tag_count-list.false, ap tag_count c.lines-line-items.ensures))
+    (omega (arith, c.tag_count.ensures, c.if-tag_count-list.false, ap tag_count c.lines-line-items.ensures.value))
 
 -- there are no more than lines
 few : (c : Then-line) → c.loop-line.number < 32
 few c =
-    let b = c.args.self.now in
-    omega (arith, c.loop-line.invariant.counted, count_few c.lines-line-items.result.now c.loop-line.line-index, ap length c.lines-line-items.ensures, front_length b.lines b.used b.few b.sized, b.few)
+    omega (arith, c.loop-line.invariant.counted, count_few c.lines-line-items.result.now c.loop-line.line-index, ap length c.lines-line-items.ensures.value)
 
 pub overflow_add-number : goal.overflow_add-number
 overflow_add-number c = omega (arith, few c)
@@ -33,7 +30,7 @@ loop-line-preserved c =
     let ls = c.lines-line-items.result.now in
     elim c.if-line.branch [
       | then-line w ↦
-          let left = place_left ls c.loop-line.line-index c.args.list.now c.loop-line.list c.loop-line.number c.loop-line.invariant c.loop-line-test.true w.if-line.true (omega (arith, c.tag_count.ensures, c.if-tag_count-list.false, ap tag_count c.lines-line-items.ensures)) in
+          let left = place_left ls c.loop-line.line-index c.args.list.now c.loop-line.list c.loop-line.number c.loop-line.invariant c.loop-line-test.true w.if-line.true (omega (arith, c.tag_count.ensures, c.if-tag_count-list.false, ap tag_count c.lines-line-items.ensures.value)) in
           simp (w.list-is, w.number-is) (copied_tagged ls c.loop-line.line-index c.args.list.now c.loop-line.list c.loop-line.number c.loop-line.invariant c.loop-line-test.true w.if-line.true left)
       | else-line w ↦
           simp (w.list-is, w.number-is) (copied_plain ls c.loop-line.line-index c.args.list.now c.loop-line.list c.loop-line.number c.loop-line.invariant c.loop-line-test.true w.if-line.false)
@@ -41,10 +38,9 @@ loop-line-preserved c =
 
 pub returns : goal.returns
 returns c =
-    let b = c.args.self.now in
     let all : c.loop-line.line-index ≡ length c.lines-line-items.result.now = omega (arith, c.loop-line.auto.line-index-end, c.loop-line-test.false) in
-    copied_all (lines_of b) c.args.list.now c.loop-line.list c.loop-line.number
-    (subst (λ (ls : List Line). Copied ls (length ls) c.args.list.now c.loop-line.list c.loop-line.number) c.lines-line-items.ensures
+    copied_all c.args.self.now c.args.list.now c.loop-line.list c.loop-line.number
+    (subst (λ (ls : List Line). Copied ls (length ls) c.args.list.now c.loop-line.list c.loop-line.number) c.lines-line-items.ensures.value
     (subst (λ (n : ℕ). Copied c.lines-line-items.result.now n c.args.list.now c.loop-line.list c.loop-line.number) all c.loop-line.invariant))
-    b.apart
+    c.lines-line-items.ensures.apart
     (omega (arith, c.tag_count.ensures, c.if-tag_count-list.false))
