@@ -1,6 +1,5 @@
 // Making a core, striking it, and looking at it.
 ghost use Rattle.std.specs.Prelude.{◌≡◌, ◌<◌, ◌≤◌, MatchOption};
-ghost use Rattle.program.specs.Programs.{instructions_of};
 ghost use Rattle.model.specs.Instructions.{asks};
 ghost use Rattle.model.specs.Engine.{new_core, struck_at};
 ghost use Rattle.model.specs.Calls.{look_at};
@@ -63,7 +62,7 @@ impl Core {
 
     // What the core's instruction asks for.
     pub(super) fn ask(&self, program: &Program) -> Ask
-        ensures value { ask_of self.now.place result ≡ asks (instructions_of program.now) self.now.place }
+        ensures value { ask_of self.now.place result ≡ asks program.now self.now.place }
         ensures onward { Onward self.now.place result }
     {
         Ask::of(program.at(self.place.pc), self.place)
@@ -71,7 +70,7 @@ impl Core {
 
     // The address that the core's instruction would load, 0 where it is no LOAD.
     pub fn load_address(&self, program: &Program) -> usize
-        ensures { result ≡ load_address (instructions_of program.now) self.now.place }
+        ensures { result ≡ load_address program.now self.now.place }
     {
         match self.ask(program) {
             Ask::Loads { address, d: _ } => address,

@@ -1,6 +1,5 @@
 // A step of a core, by its state.
 ghost use Rattle.std.specs.Prelude.{◌≡◌};
-ghost use Rattle.program.specs.Programs.{instructions_of};
 ghost use Rattle.model.specs.Instructions.{outer_at, inner_at};
 ghost use Rattle.model.specs.Cores.{outcome};
 ghost use Rattle.cores.specs.Decisions.{outer_of, OnwardOuter, inner_of, OnwardInner};
@@ -16,7 +15,7 @@ use program::program::Program;
 impl Core {
     // What the core's instruction comes to outside every block.
     fn outside(&self, program: &Program, words: usize) -> Result<Outer, Fault>
-        ensures value { outer_of self.now.place result ≡ outer_at (instructions_of program.now) words self.now.place }
+        ensures value { outer_of self.now.place result ≡ outer_at program.now words self.now.place }
         ensures onward { OnwardOuter self.now.place words result }
     {
         Outer::of(self.ask(program), self.place, words)
@@ -24,7 +23,7 @@ impl Core {
 
     // What the core's instruction comes to inside its block.
     fn inside(&self, program: &Program, words: usize) -> Result<Inner, Fault>
-        ensures value { inner_of self.now.place result ≡ inner_at (instructions_of program.now) words self.now.place self.now.depth self.now.count }
+        ensures value { inner_of self.now.place result ≡ inner_at program.now words self.now.place self.now.depth self.now.count }
         ensures onward { OnwardInner self.now.place self.now.count words result }
     {
         Inner::of(self.ask(program), self.place, self.depth, self.count, words)
@@ -32,7 +31,7 @@ impl Core {
 
     // One step, by the core's state and its instruction. Of the memory it looks only at the scene's word.
     pub fn step(&mut self, program: &Program, scene: Scene) -> Outcome
-        ensures { outcome_of self.new result ≡ outcome (scene_view (instructions_of program.now) scene) (core_of self.old) }
+        ensures { outcome_of self.new result ≡ outcome (scene_view program.now scene) (core_of self.old) }
     {
         match self.state {
             State::Bypass => self.in_bypass(self.outside(program, scene.words), scene),
