@@ -1,17 +1,15 @@
 // Playing a packed list of calls on a new engine, over any memory and any outlet.
-ghost use Rattle.std.specs.Prelude.{◌≡◌, ◌+◌, ◌≤◌, length, is_some};
+ghost use Rattle.std.specs.Prelude.{◌≡◌, ◌+◌, ◌≤◌, length};
 ghost use Rattle.memory.specs.Bytes.{word_from, pasted};
 ghost use Rattle.model.specs.Engine.{make};
 ghost use Rattle.model.specs.Journal.{history};
 ghost use Rattle.model.specs.Laws.{Lawful};
-ghost use Rattle.engine.specs.Engines.{outlet_of, engine_of, settings_of, host_has};
+ghost use Rattle.engine.specs.Engines.{outlet_of, settings_of};
+ghost use Rattle.desk.specs.Desks.{desk_engine};
 ghost use Rattle.wire.specs.Calls.{call_of};
 ghost use Rattle.bench.specs.Playing.{answered, after, calls_in, words_played, answers_left};
 
-use crate::desk::perform;
-use engine::engine::Engine;
-use engine::pass::Pass;
-use engine::play::Session;
+use desk::desk::Desk;
 use memory::shared::Memory;
 use outlet::waiting::Outlet;
 use program::program::Program;
@@ -35,42 +33,20 @@ fn put_eight(bytes: &mut [u8], at: usize, new: [u8; 8])
 }
 
 // Plays one word of a packed list, and gives the bytes that answer it.
-fn answer<M: Memory, O: Outlet>(
-    engine: &mut Engine<M, O>,
-    pass: Option<Pass>,
-    word: u32,
-) -> (Option<Pass>, [u8; 8])
-    requires { is_some pass ≡ host_has (engine_of M.Memory O.Outlet engine.old).token }
-    ensures after { engine_of M.Memory O.Outlet engine.new ≡ after (engine_of M.Memory O.Outlet engine.old) (call_of word) }
-    ensures answer { result.1 ≡ answered (engine_of M.Memory O.Outlet engine.old) (call_of word) }
-    ensures pass { is_some result.0 ≡ host_has (engine_of M.Memory O.Outlet engine.new).token }
+fn answer<M: Memory, O: Outlet>(desk: &mut Desk<M, O>, word: u32) -> [u8; 8]
+    ensures after { desk_engine M.Memory O.Outlet desk.new ≡ after (desk_engine M.Memory O.Outlet desk.old) (call_of word) }
+    ensures answer { result ≡ answered (desk_engine M.Memory O.Outlet desk.old) (call_of word) }
 {
     match decode(word) {
-        Ok(call) => {
-            let (pass, reply) = perform(engine, pass, call);
-            (pass, reply_bytes(reply))
-        }
-        Err(fault) => (pass, fault_bytes(fault)),
+        Ok(call) => reply_bytes(desk.perform(call)),
+        Err(fault) => fault_bytes(fault),
     }
 }
 
 // An engine after a packed list of calls, with the host's pass where the host has the token, and how many calls were played.
 pub struct Played<M: Memory, O: Outlet> {
-    pub session: Session<M, O>,
+    pub desk: Desk<M, O>,
     pub count: usize,
-}
-
-// Lets an engine go, and before it the host's pass.
-fn finish<M: Memory + Drop, O: Outlet + Drop>(session: Session<M, O>)
-    requires { is_some session.pass ≡ host_has (engine_of M.Memory O.Outlet session.engine).token }
-{
-    let Session { mut engine, pass } = session;
-    if let Some(pass) = pass {
-        match engine.give_back(pass) {
-            Ok(()) => {}
-            Err(_) => unreachable(),
-        }
-    }
 }
 
 // Makes an engine and plays the first words of a packed list of calls on it, as many as there is place for whole answers.
@@ -85,24 +61,18 @@ pub fn play_packed<M: Memory, O: Outlet>(
     calls: &[u8],
     answers: &mut [u8],
 ) -> Played<M, O>
-    ensures engine { engine_of M.Memory O.Outlet result.session.engine ≡ (history (settings_of program places.now lines) (M.Memory.words memory) (outlet_of O.Outlet outlet) (calls_in (words_played calls.now answers.old))).engine }
-    ensures pass { is_some result.session.pass ≡ host_has (engine_of M.Memory O.Outlet result.session.engine).token }
+    ensures engine { desk_engine M.Memory O.Outlet result.desk ≡ (history (settings_of program places.now lines) (M.Memory.words memory) (outlet_of O.Outlet outlet) (calls_in (words_played calls.now answers.old))).engine }
     ensures count { result.count ≡ length (words_played calls.now answers.old) }
     ensures answers { answers.new ≡ answers_left (make (settings_of program places.now lines) (M.Memory.words memory) (outlet_of O.Outlet outlet)) (words_played calls.now answers.old) answers.old }
     ensures lawful { Lawful (settings_of program places.now lines) (M.Memory.words memory) (outlet_of O.Outlet outlet) (calls_in (words_played calls.now answers.old)) }
 {
-    let mut engine = Engine::make(program, places, lines, memory, outlet);
-    let mut pass = None;
+    let mut desk = Desk::make(program, places, lines, memory, outlet);
     let count = (calls.len() / 4).min(answers.len() / 8);
     for i in 0..count {
-        let (kept, bytes) = answer(&mut engine, pass, word_from(calls, 4 * i));
-        pass = kept;
+        let bytes = answer(&mut desk, word_from(calls, 4 * i));
         put_eight(answers, 8 * i, bytes);
     }
-    Played {
-        session: Session { engine, pass },
-        count,
-    }
+    Played { desk, count }
 }
 
 // The same, with the engine let go at the end: what it stands on goes back to its lender.
@@ -119,9 +89,9 @@ pub(crate) fn play_to_end<M: Memory + Drop, O: Outlet + Drop>(
     ensures answers { answers.new ≡ answers_left (make (settings_of program places.now lines) (M.Memory.words memory) (outlet_of O.Outlet outlet)) (words_played calls.now answers.old) answers.old }
     ensures lawful { Lawful (settings_of program places.now lines) (M.Memory.words memory) (outlet_of O.Outlet outlet) (calls_in (words_played calls.now answers.old)) }
 {
-    let Played { session, count } = play_packed(
+    let Played { desk, count } = play_packed(
         program, places, lines, memory, outlet, calls, answers,
     );
-    finish(session);
+    desk.close();
     count
 }

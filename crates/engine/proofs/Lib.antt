@@ -3,5 +3,3 @@ pub mod Moving
 pub mod Rooms
 pub mod Applying
 pub mod Refusing
-pub mod Playing
-pub mod Tokens

@@ -35,21 +35,10 @@ impl<M: Memory, O: Outlet> Engine<M, O> {
         ensures after { engine_of M.Memory O.Outlet self.new ≡ (hold (engine_of M.Memory O.Outlet self.old)).engine }
         ensures answer { held_as result ≡ (hold (engine_of M.Memory O.Outlet self.old)).answer }
     {
-        match self.occupy() {
-            Ok(()) => Ok(Pass::issue()),
-            Err(refusal) => Err(refusal),
-        }
-    }
-
-    // The same without a pass.
-    pub(crate) fn occupy(&mut self) -> Result<(), HoldRefusal>
-        ensures after { engine_of M.Memory O.Outlet self.new ≡ (hold (engine_of M.Memory O.Outlet self.old)).engine }
-        ensures answer { result ≡ (hold (engine_of M.Memory O.Outlet self.old)).answer }
-    {
         match self.token {
             Token::Free => {
                 self.token = Token::Host;
-                Ok(())
+                Ok(Pass::issue())
             }
             _ => Err(HoldRefusal::TokenTaken),
         }
@@ -59,18 +48,11 @@ impl<M: Memory, O: Outlet> Engine<M, O> {
     pub fn read(&self, _pass: &Pass, address: usize) -> Result<u32, ReadRefusal>
         ensures { result ≡ read (engine_of M.Memory O.Outlet self.now) address }
     {
-        self.word_held(address)
-    }
-
-    // The same without a pass.
-    pub(crate) fn word_held(&self, address: usize) -> Result<u32, ReadRefusal>
-        ensures { result ≡ read (engine_of M.Memory O.Outlet self.now) address }
-    {
         match self.token {
-            Token::Host => match self.memory.read(address) {
-                Ok(word) => Ok(word),
-                Err(_) => Err(ReadRefusal::AddressOutside),
-            },
+            Token::Host => self
+                .memory
+                .read(address)
+                .map_err(|_| ReadRefusal::AddressOutside),
             _ => Err(ReadRefusal::NotHeld),
         }
     }
@@ -80,26 +62,13 @@ impl<M: Memory, O: Outlet> Engine<M, O> {
         ensures after { engine_of M.Memory O.Outlet self.new ≡ (give_back (engine_of M.Memory O.Outlet self.old)).engine }
         ensures answer { given_as result ≡ (give_back (engine_of M.Memory O.Outlet self.old)).answer }
     {
-        match self.release() {
-            Ok(()) => {
-                pass.spend();
-                Ok(())
-            }
-            Err(refusal) => Err((refusal, pass)),
-        }
-    }
-
-    // The same without a pass.
-    pub(crate) fn release(&mut self) -> Result<(), GiveBackRefusal>
-        ensures after { engine_of M.Memory O.Outlet self.new ≡ (give_back (engine_of M.Memory O.Outlet self.old)).engine }
-        ensures answer { result ≡ (give_back (engine_of M.Memory O.Outlet self.old)).answer }
-    {
         match self.token {
             Token::Host => {
                 self.token = Token::Free;
+                pass.spend();
                 Ok(())
             }
-            _ => Err(GiveBackRefusal::NotHeld),
+            _ => Err((GiveBackRefusal::NotHeld, pass)),
         }
     }
 

@@ -5,7 +5,7 @@ use Rattle.model.specs.Runs.{plays, replies}
 use Rattle.laws.proofs.Laws.{lawful, is_played}
 use Rattle.engine.specs.Engines.{outlet_of, settings_of, playable}
 use Rattle.desk.specs.Desks.{desk_engine}
-use Rattle.engine.proofs.Playing.{sofar_more, sofar_all}
+use Rattle.desk.proofs.Playing.{sofar_more, sofar_all}
 use Rattle.desk.proofs.play.play.Goals as goal
 
 pub loop-i-preserved : goal.loop-i-preserved

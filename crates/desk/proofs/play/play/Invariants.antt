@@ -1,5 +1,5 @@
 use Rattle.desk.specs.Desks.{desk_engine}
-use Rattle.engine.proofs.Playing.{Sofar}
+use Rattle.desk.proofs.Playing.{Sofar}
 use Rattle.desk.proofs.play.play.Given as goal
 
 abbrev pub invariant-loop-i : goal.invariant-loop-i

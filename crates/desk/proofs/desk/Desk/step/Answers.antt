@@ -2,7 +2,7 @@ use Rattle.std.proofs.Common.{sym, ap, ◌∙◌}
 use Rattle.model.specs.Engine.{Engine}
 use Rattle.engine.specs.Engines.{host_has}
 use Rattle.desk.specs.Desks.{desk_engine}
-use Rattle.engine.proofs.Tokens.{step_same}
+use Rattle.desk.proofs.Tokens.{step_same}
 use Rattle.desk.proofs.desk.Desk.step.Goals as goal
 
 pub invariant_of-self : goal.invariant_of-self
