@@ -5,13 +5,12 @@ ghost use Rattle.bench.specs.declared.export.PlayRefusal.TheVariants.{Program as
 
 use crate::play::play_to_end;
 use answers::refusal::{ProgramRefusal, Refusal};
-use engine::engine::making::check;
+use engine::settings::Settings;
 use memory::bytes::ByteMemory;
 use memory::shared::Memory;
 use model::refusal::CheckRefusal;
 use outlet::bytes::ByteOutlet;
 use program::program::Program;
-use wire::settings::Settings;
 
 // A program or settings that are not accepted.
 #[derive(Clone, Copy, PartialEq, Eq, Debug)]
@@ -76,18 +75,15 @@ pub fn play_bytes(
     ensures sent { KeptIfRefused (accepted program.now settings.now memory.old) sent.old sent.new }
 {
     let program = Program::read(program)?;
-    let settings = Settings::read(settings);
-    let memory = ByteMemory::new(memory);
-    check(&program, settings.places(), settings.lines(), memory.len())?;
-    Ok(play_to_end(
+    let read = wire::settings::Settings::read(settings);
+    let settings = Settings {
         program,
-        settings.places(),
-        settings.lines(),
-        memory,
-        ByteOutlet::new(sent),
-        calls,
-        answers,
-    ))
+        places: read.places(),
+        lines: read.lines(),
+    };
+    let memory = ByteMemory::new(memory);
+    settings.check(memory.len())?;
+    Ok(play_to_end(settings, memory, ByteOutlet::new(sent), calls, answers))
 }
 
 // What a host is told, as one number: the count of calls played; or the highest bit, the question's number from bit 32

@@ -10,9 +10,9 @@ ghost use Rattle.wire.specs.Calls.{call_of};
 ghost use Rattle.bench.specs.Playing.{answered, after, calls_in, words_played, answers_left};
 
 use desk::desk::Desk;
+use engine::settings::Settings;
 use memory::shared::Memory;
 use outlet::waiting::Outlet;
-use program::program::Program;
 use wire::call::decode;
 use wire::reply::{fault_bytes, reply_bytes};
 
@@ -53,20 +53,18 @@ pub struct Played<M: Memory, O: Outlet> {
 // The bytes past their answers stay. At every point of the run the serial law, the roll-back law and the held-read law
 // hold.
 pub fn play_packed<M: Memory, O: Outlet>(
-    program: Program,
-    places: &[usize],
-    lines: usize,
+    settings: Settings<'_>,
     memory: M,
     outlet: O,
     calls: &[u8],
     answers: &mut [u8],
 ) -> Played<M, O>
-    ensures engine { desk_engine M.Memory O.Outlet result.desk ≡ (history (settings_of program places.now lines) (M.Memory.words memory) (outlet_of O.Outlet outlet) (calls_in (words_played calls.now answers.old))).engine }
+    ensures engine { desk_engine M.Memory O.Outlet result.desk ≡ (history (settings_of settings.entry) (M.Memory.words memory) (outlet_of O.Outlet outlet) (calls_in (words_played calls.now answers.old))).engine }
     ensures count { result.count ≡ length (words_played calls.now answers.old) }
-    ensures answers { answers.new ≡ answers_left (make (settings_of program places.now lines) (M.Memory.words memory) (outlet_of O.Outlet outlet)) (words_played calls.now answers.old) answers.old }
-    ensures lawful { Lawful (settings_of program places.now lines) (M.Memory.words memory) (outlet_of O.Outlet outlet) (calls_in (words_played calls.now answers.old)) }
+    ensures answers { answers.new ≡ answers_left (make (settings_of settings.entry) (M.Memory.words memory) (outlet_of O.Outlet outlet)) (words_played calls.now answers.old) answers.old }
+    ensures lawful { Lawful (settings_of settings.entry) (M.Memory.words memory) (outlet_of O.Outlet outlet) (calls_in (words_played calls.now answers.old)) }
 {
-    let mut desk = Desk::make(program, places, lines, memory, outlet);
+    let mut desk = Desk::make(settings, memory, outlet);
     let count = (calls.len() / 4).min(answers.len() / 8);
     for i in 0..count {
         let bytes = answer(&mut desk, word_from(calls, 4 * i));
@@ -77,21 +75,17 @@ pub fn play_packed<M: Memory, O: Outlet>(
 
 // The same, with the engine let go at the end: what it stands on goes back to its lender.
 pub(crate) fn play_to_end<M: Memory + Drop, O: Outlet + Drop>(
-    program: Program,
-    places: &[usize],
-    lines: usize,
+    settings: Settings<'_>,
     memory: M,
     outlet: O,
     calls: &[u8],
     answers: &mut [u8],
 ) -> usize
     ensures count { result ≡ length (words_played calls.now answers.old) }
-    ensures answers { answers.new ≡ answers_left (make (settings_of program places.now lines) (M.Memory.words memory) (outlet_of O.Outlet outlet)) (words_played calls.now answers.old) answers.old }
-    ensures lawful { Lawful (settings_of program places.now lines) (M.Memory.words memory) (outlet_of O.Outlet outlet) (calls_in (words_played calls.now answers.old)) }
+    ensures answers { answers.new ≡ answers_left (make (settings_of settings.entry) (M.Memory.words memory) (outlet_of O.Outlet outlet)) (words_played calls.now answers.old) answers.old }
+    ensures lawful { Lawful (settings_of settings.entry) (M.Memory.words memory) (outlet_of O.Outlet outlet) (calls_in (words_played calls.now answers.old)) }
 {
-    let Played { desk, count } = play_packed(
-        program, places, lines, memory, outlet, calls, answers,
-    );
+    let Played { desk, count } = play_packed(settings, memory, outlet, calls, answers);
     desk.close();
     count
 }

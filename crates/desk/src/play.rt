@@ -8,28 +8,26 @@ ghost use Rattle.engine.specs.Engines.{outlet_of, settings_of, playable};
 ghost use Rattle.desk.specs.Desks.{desk_engine};
 
 use crate::desk::Desk;
+use engine::settings::Settings;
 use memory::shared::Memory;
 use model::call::{Call, Reply};
 use outlet::waiting::Outlet;
-use program::program::Program;
 
 // Makes an engine and plays the first calls of a list on it, as many as there are places for replies. Each call acts on
 // what those before it left, refused ones included. The replies fill the first places of their list; the others stay.
 // At every point of the run the serial law, the roll-back law and the held-read law hold.
 pub fn play<M: Memory, O: Outlet>(
-    program: Program,
-    places: &[usize],
-    lines: usize,
+    settings: Settings<'_>,
     memory: M,
     outlet: O,
     calls: &[Call],
     replies: &mut [Reply],
 ) -> Desk<M, O>
-    ensures engine { desk_engine M.Memory O.Outlet result ≡ (history (settings_of program places.now lines) (M.Memory.words memory) (outlet_of O.Outlet outlet) (playable calls.now replies.old)).engine }
-    ensures replies { replies.new ≡ model_replies (make (settings_of program places.now lines) (M.Memory.words memory) (outlet_of O.Outlet outlet)) (playable calls.now replies.old) ++ drop (length (playable calls.now replies.old)) replies.old }
-    ensures lawful { Lawful (settings_of program places.now lines) (M.Memory.words memory) (outlet_of O.Outlet outlet) (playable calls.now replies.old) }
+    ensures engine { desk_engine M.Memory O.Outlet result ≡ (history (settings_of settings.entry) (M.Memory.words memory) (outlet_of O.Outlet outlet) (playable calls.now replies.old)).engine }
+    ensures replies { replies.new ≡ model_replies (make (settings_of settings.entry) (M.Memory.words memory) (outlet_of O.Outlet outlet)) (playable calls.now replies.old) ++ drop (length (playable calls.now replies.old)) replies.old }
+    ensures lawful { Lawful (settings_of settings.entry) (M.Memory.words memory) (outlet_of O.Outlet outlet) (playable calls.now replies.old) }
 {
-    let mut desk = Desk::make(program, places, lines, memory, outlet);
+    let mut desk = Desk::make(settings, memory, outlet);
     let count = calls.len().min(replies.len());
     for i in 0..count {
         replies[i] = desk.perform(calls[i]);

@@ -1,27 +1,16 @@
 -- Settings that pass the check have entry places for a table of cores.
 -- Assumes nothing.
-use Rattle.std.proofs.Common.{◌≡◌, ℕ, ◌+◌, ◌<◌, ◌≤◌, true, false, ◌&&◌, ltb, leb, List, [], ◌∷◌, length, get_or, drop, Ok, sym, refl, ◌∙◌, inl, inr, arith, ltb-true, le-ltb, lt-ltb}
-use Rattle.std.proofs.lemmas.List.{at_drop_more, at_drop_all}
+use Rattle.std.proofs.Common.{◌≡◌, ℕ, ◌≤◌, true, false, ◌&&◌, ltb, leb, List, [], ◌∷◌, length, refl, ap, inl, inr, arith, ltb-true, lt-ltb}
+use Rattle.std.specs.List.{list_all}
+use Rattle.std.specs.Result.{is_err}
 use Rattle.std.proofs.lemmas.Bool.{cases_Bool, and_from, and_parts}
 use Rattle.model.specs.Engine.{Settings, up_to, all_below, check}
 use Rattle.bank.specs.Tables.{placeable}
 
-module _ (ps : List ℕ) (n i : ℕ) (sofar : all_below (drop i ps) n ≡ all_below ps n) where
-  -- one place more that is below
-  pub below_more : i < length ps → get_or ps i 0 < n → all_below (drop (i + 1) ps) n ≡ all_below ps n
-  below_more h lt =
-      let e : all_below (drop i ps) n ≡ (ltb (get_or ps i 0) n && all_below (drop (i + 1) ps) n) = at_drop_more (λ l. all_below l n) ps i 0 h in
-      sym (e ∙ rw (lt-ltb (get_or ps i 0) n lt)) ∙ sofar
-
-  -- a place that is not below
-  pub below_stop : i < length ps → n ≤ get_or ps i 0 → false ≡ all_below ps n
-  below_stop h le =
-      let e : all_below (drop i ps) n ≡ (ltb (get_or ps i 0) n && all_below (drop (i + 1) ps) n) = at_drop_more (λ l. all_below l n) ps i 0 h in
-      sym (e ∙ rw (le-ltb (get_or ps i 0) n le)) ∙ sofar
-
-  -- all are below
-  pub below_all : length ps ≤ i → true ≡ all_below ps n
-  below_all h = sym (at_drop_all (λ l. all_below l n) ps i h) ∙ sofar
+-- whether all are below, as a test of each
+pub list_all_below : (ps : List ℕ) (n : ℕ) → list_all (λ p. ltb p n) ps ≡ all_below ps n
+list_all_below [] n = refl
+list_all_below (p ∷ ps) n = ap (λ b. ltb p n && b) (list_all_below ps n)
 
 below_wider : (ps : List ℕ) (m n : ℕ) → m ≤ n → all_below ps m ≡ true → all_below ps n ≡ true
 below_wider [] m n h all = refl
@@ -30,7 +19,7 @@ below_wider (p ∷ ps) m n h all =
     and_from (ltb p n) (all_below ps n) (lt-ltb p n (omega (arith, ltb-true p m b.0))) (below_wider ps m n h b.1)
 
 -- what passes the check can be placed
-pub checked_placeable : (s : Settings) (words : ℕ) → length s.program ≤ 512 → check s words ≡ Ok tt → placeable s.places ≡ true
+pub checked_placeable : (s : Settings) (words : ℕ) → length s.program ≤ 512 → is_err (check s words) ≡ false → placeable s.places ≡ true
 checked_placeable s words few ok =
     elim (cases_Bool (up_to (length s.places) 8)) [
       | inl count ↦

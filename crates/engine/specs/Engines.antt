@@ -5,10 +5,9 @@
 --   playable           the calls of a list that are played
 --   held_as, given_as  a hold's and a giving back's answer, the pass left out
 -- Assumes nothing.
-use Rattle.std.specs.Prelude.{ℕ, Bool, true, false, List, length, take, Ok, Err, Result}
+use Rattle.std.specs.Prelude.{Bool, true, false, List, length, take, Ok, Err, Result}
 use Rattle.memory.specs.declared.shared.Memory.{Ghosts as MemoryGhosts}
 use Rattle.outlet.specs.declared.waiting.Outlet.{Ghosts as OutletGhosts}
-use Rattle.program.specs.declared.program.Program.{Program}
 use Rattle.program.specs.Programs.{instructions_of}
 use Rattle.model.specs.declared.refusal.HoldRefusal.{HoldRefusal}
 use Rattle.model.specs.declared.refusal.GiveBackRefusal.{GiveBackRefusal}
@@ -16,10 +15,11 @@ use Rattle.model.specs.declared.call.Call.{Call}
 use Rattle.model.specs.declared.call.Reply.{Reply}
 use Rattle.model.specs.declared.state.Token.{Token}
 use Rattle.model.specs.declared.state.Token.TheVariants.{Free, Core as CoreHas, Host}
-use Rattle.model.specs.Engine.{Engine as ModelEngine, Outlet as ModelOutlet, Settings}
+use Rattle.model.specs.Engine.{Engine as ModelEngine, Outlet as ModelOutlet, Settings as ModelSettings}
 use Rattle.bank.specs.Tables.{cores_of}
 use Rattle.engine.specs.declared.engine.Engine.{Engine}
 use Rattle.engine.specs.declared.pass.Pass.{Pass}
+use Rattle.engine.specs.declared.settings.Settings.{Settings}
 
 -- what an outlet means
 abbrev pub outlet_of : {O : Type 0} → OutletGhosts O → O → ModelOutlet
@@ -39,8 +39,8 @@ engine_of m o e = record {
 }
 
 -- what an engine is made from besides memory and outlet
-abbrev pub settings_of : Program → List ℕ → ℕ → Settings
-settings_of program places lines = record { program = instructions_of program; places = places; lines = lines }
+abbrev pub settings_of : Settings → ModelSettings
+settings_of s = record { program = instructions_of s.program; places = s.places.now; lines = s.lines }
 
 -- what a hold answers, the pass left out
 abbrev pub held_as : Result Pass HoldRefusal → Result (Unit {0}) HoldRefusal

@@ -4,14 +4,13 @@ use buffers::buffers::{MemoryBuffer, OutletBuffer};
 use commands::reason::Reason;
 use console::console::{Console, Next, Order, write_reason, write_told};
 use desk::desk::Desk;
-use engine::engine::making::check;
+use engine::settings::Settings;
 use memory::bytes::ByteMemory;
 use memory::shared::Memory;
 use memory::words::WordMemory;
 use outlet::bytes::ByteOutlet;
 use outlet::store::StoreOutlet;
 use outlet::waiting::Outlet;
-use program::program::Program;
 use render::line::write_line;
 use render::tell::tell_made;
 use std::alloc::Global;
@@ -118,20 +117,23 @@ impl<'a, R: Read + Drop> Scenario<'a, R> {
     fn play_order(&mut self, heap: Global, order: Order) -> io::Result<Option<Order>> {
         let Order {
             program,
-            settings,
+            settings: read,
             memory,
             outlet,
         } = order;
-        let places = settings.places.as_slice();
-        let lines = settings.lines;
+        let settings = Settings {
+            program,
+            places: read.places.as_slice(),
+            lines: read.lines,
+        };
         match memory {
             MemoryBuffer::Words(mut words) => {
                 let memory = WordMemory::new(words.as_mut_slice());
-                self.play_memory(heap, program, places, lines, memory, outlet)
+                self.play_memory(heap, settings, memory, outlet)
             }
             MemoryBuffer::Bytes(mut bytes) => {
                 let memory = ByteMemory::new(bytes.as_mut_slice());
-                self.play_memory(heap, program, places, lines, memory, outlet)
+                self.play_memory(heap, settings, memory, outlet)
             }
         }
     }
@@ -139,23 +141,21 @@ impl<'a, R: Read + Drop> Scenario<'a, R> {
     fn play_memory<M: Memory + Drop>(
         &mut self,
         heap: Global,
-        program: Program,
-        places: &[usize],
-        lines: usize,
+        settings: Settings<'_>,
         memory: M,
         outlet: OutletBuffer,
     ) -> io::Result<Option<Order>> {
-        let checked = check(&program, places, lines, memory.len());
-        let told = tell_made(heap, checked, places.len())?;
+        let checked = settings.check(memory.len());
+        let told = tell_made(heap, checked, settings.places.len())?;
         write_line(&mut self.out, told.as_str())?;
         match outlet {
             OutletBuffer::Store => {
                 let outlet = StoreOutlet::new();
-                self.play_desk(heap, Desk::make(program, places, lines, memory, outlet))
+                self.play_desk(heap, Desk::make(settings, memory, outlet))
             }
             OutletBuffer::Bytes(mut bytes) => {
                 let buffer = bytes.as_mut_slice();
-                self.play_over::<M, OverBytes>(heap, program, places, lines, memory, buffer)
+                self.play_over::<M, OverBytes>(heap, settings, memory, buffer)
             }
         }
     }
@@ -164,14 +164,12 @@ impl<'a, R: Read + Drop> Scenario<'a, R> {
     fn play_over<'b, M: Memory + Drop, V: Over<'b>>(
         &mut self,
         heap: Global,
-        program: Program,
-        places: &[usize],
-        lines: usize,
+        settings: Settings<'_>,
         memory: M,
         buffer: &'b mut [u8],
     ) -> io::Result<Option<Order>> {
         let outlet = V::over(buffer);
-        self.play_desk(heap, Desk::make(program, places, lines, memory, outlet))
+        self.play_desk(heap, Desk::make(settings, memory, outlet))
     }
 
     // Plays lines on an engine. Whatever ends that, the token is given back before the engine is let go.

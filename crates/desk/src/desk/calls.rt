@@ -10,6 +10,7 @@ use super::Desk;
 use answers::answer::Answer;
 use answers::refusal::NothingWaits;
 use engine::engine::Engine;
+use engine::settings::Settings;
 use formats::entry::{RecordEntry, SentEntry};
 use memory::shared::Memory;
 use model::refusal::{
@@ -18,22 +19,17 @@ use model::refusal::{
 };
 use model::state::{Look, Token};
 use outlet::waiting::Outlet;
-use program::program::Program;
 use std::mem;
 
 impl<M: Memory, O: Outlet> Desk<M, O> {
     // A new engine, which the host does not hold.
-    pub fn make(
-        program: Program,
-        places: &[usize],
-        lines: usize,
-        memory: M,
-        outlet: O,
-    ) -> Desk<M, O>
-        ensures { desk_engine M.Memory O.Outlet result ≡ make (settings_of program places.now lines) (M.Memory.words memory) (outlet_of O.Outlet outlet) }
+    pub fn make(settings: Settings<'_>, memory: M, outlet: O) -> Desk<M, O>
+        ensures { desk_engine M.Memory O.Outlet result ≡ make (settings_of settings.entry) (M.Memory.words memory) (outlet_of O.Outlet outlet) }
     {
-        let engine = Engine::make(program, places, lines, memory, outlet);
-        Desk { engine, pass: None }
+        Desk {
+            engine: Engine::make(settings, memory, outlet),
+            pass: None,
+        }
     }
 
     // Moves one core.

@@ -26,7 +26,7 @@ pub returns : goal.returns
 returns g c =
     let calls = c.args.calls.now in
     let olds = c.args.answers.now in
-    let s = settings_of c.args.program c.args.places.now c.args.lines in
+    let s = settings_of c.args.settings in
     let m = g.M.Memory.words c.args.memory in
     let o = outlet_of g.O.Outlet c.args.outlet in
     let all = sofar_all (make s m o) (desk_engine g.M.Memory g.O.Outlet c.make-desk.result) (desk_engine g.M.Memory g.O.Outlet c.loop-i.desk) calls olds c.loop-i.answers c.loop-i.i (omega (arith, c.min-count.ensures)) c.make-desk.ensures c.loop-i.invariant in

@@ -16,7 +16,7 @@ pub returns : goal.returns
 returns g c =
     let calls = c.args.calls.now in
     let olds = c.args.replies.now in
-    let s = settings_of c.args.program c.args.places.now c.args.lines in
+    let s = settings_of c.args.settings in
     let m = g.M.Memory.words c.args.memory in
     let o = outlet_of g.O.Outlet c.args.outlet in
     let start = desk_engine g.M.Memory g.O.Outlet c.make-desk.result in

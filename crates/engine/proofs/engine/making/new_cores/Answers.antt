@@ -1,13 +1,15 @@
-use Rattle.std.proofs.Common.{sym, arith, length-take-le}
+use Rattle.std.proofs.Common.{◌∙◌, sym, ap, arith, length-take-le}
 use borrow.Author.Tests.{both_ways}
+use Rattle.std.specs.Result.{is_err}
 use Rattle.bank.specs.Tables.{placeable}
 use Rattle.engine.specs.Engines.{settings_of}
 use Rattle.engine.proofs.Making.{checked_placeable}
 use Rattle.engine.proofs.engine.making.new_cores.Goals as goal
 
-pub returns-in-None : goal.returns-in-None
-returns-in-None c =
-    let p = c.args.program.now in
+pub unreachable-requires : goal.unreachable-requires
+unreachable-requires c =
+    let s = c.args.settings.now in
+    let p = s.program in
     let long = length-take-le p.count p.instructions (omega (arith, p.few, p.sized)) in
-    absurd (both_ways (placeable c.args.places.now) c.in-None.ensures
-    (checked_placeable (settings_of p c.args.places.now c.args.lines) c.args.words (omega (arith, long, p.few)) (sym c.in-Ok.ensures)))
+    both_ways (placeable s.places.now) c.in_default.ensures
+    (checked_placeable (settings_of s) c.args.words (omega (arith, long, p.few)) (sym (ap is_err c.check.ensures) ∙ sym c.is_err.ensures.value ∙ c.if-is_err.false))
