@@ -1,10 +1,12 @@
 -- Playing one word after the other.
 -- Assumes nothing.
-use Rattle.std.proofs.Common.{◌≡◌, ℕ, ◌+◌, ◌*◌, ◌/◌, ◌<◌, ◌≤◌, min, ◌⊎◌, List, [], ◌∷◌, ◌++◌, length, get_or, take, drop, Ok, Err, Result, sym, refl, ap, ◌∙◌, inl, inr, append_assoc, append-nil, arith, length-append, length-take-le, take_all, drop-drop, take_at}
+use Rattle.std.proofs.Common.{◌≡◌, ℕ, zero, suc, ◌+◌, ◌*◌, ◌/◌, ◌<◌, ◌≤◌, min, ◌⊎◌, List, [], ◌∷◌, ◌++◌, length, get_or, take, drop, Ok, Err, Result, sym, refl, ap, ◌∙◌, inl, inr, append_assoc, append-nil, arith, length-append, length-take-le, take_all, drop-drop, take_at}
 use lib.Seq.{drop-append-add}
-use Rattle.std.proofs.lemmas.List.{take_more}
+use Rattle.std.proofs.lemmas.List.{take_more, get_or-take}
 use Rattle.std.proofs.lemmas.Bool.{cases_lt}
-use Rattle.memory.specs.Bytes.{words_in, pasted}
+use Rattle.std.specs.Int.{from_be_bytes, w32}
+use Rattle.std.specs.Simd.{first_chunks}
+use Rattle.memory.specs.Bytes.{word_of, words_in, pasted}
 use Rattle.memory.proofs.Quads.{words_length}
 use Rattle.model.specs.declared.call.Call.{Call}
 use Rattle.model.specs.declared.call.Reply.{Reply}
@@ -15,6 +17,24 @@ use Rattle.wire.specs.declared.call.CallFault.{CallFault}
 use Rattle.wire.specs.Calls.{call_of}
 use Rattle.wire.specs.Replies.{reply_bytes}
 use Rattle.bench.specs.Playing.{answered, after, answers_of, call_then, calls_in, words_played, answers_left}
+
+-- the word of a chunk of four bytes is the one at its place
+word_of_chunk : (a b c d : ℕ) → from_be_bytes w32 (a ∷ b ∷ c ∷ d ∷ []) ≡ word_of a b c d
+word_of_chunk a b c d = omega arith
+
+in_chunks : (bs : List ℕ) (k i : ℕ) (none : List ℕ) → i < k → k ≤ length (words_in bs) → from_be_bytes w32 (get_or (first_chunks 4 k bs) i none) ≡ get_or (words_in bs) i 0
+in_chunks bs zero i none h few = absurd (omega arith)
+in_chunks [] (suc k) i none h few = absurd (omega arith)
+in_chunks (a ∷ []) (suc k) i none h few = absurd (omega arith)
+in_chunks (a ∷ b ∷ []) (suc k) i none h few = absurd (omega arith)
+in_chunks (a ∷ b ∷ c ∷ []) (suc k) i none h few = absurd (omega arith)
+in_chunks (a ∷ b ∷ c ∷ d ∷ rest) (suc k) zero none h few = word_of_chunk a b c d
+in_chunks (a ∷ b ∷ c ∷ d ∷ rest) (suc k) (suc i) none h few = in_chunks rest k i none (omega arith) (omega arith)
+
+pub chunk_word : (bs : List ℕ) (chunks : List (List ℕ)) (count i : ℕ) (none : List ℕ) → chunks ≡ first_chunks 4 (length bs / 4) bs → i < count → count ≤ length bs / 4 → from_be_bytes w32 (get_or (take count chunks) i none) ≡ get_or (words_in bs) i 0
+chunk_word bs chunks count i none are h few =
+    let n = words_length bs in
+    ap (from_be_bytes w32) (get_or-take count chunks i none h ∙ ap (λ l. get_or l i none) are) ∙ in_chunks bs (length bs / 4) i none (omega arith) (omega arith)
 
 -- a reply is eight bytes
 reply_eight : (r : Reply) → length (reply_bytes r) ≡ 8

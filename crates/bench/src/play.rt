@@ -1,6 +1,5 @@
 // Playing a packed list of calls on a new engine, over any memory and any outlet.
-ghost use Rattle.std.specs.Prelude.{◌≡◌, ◌+◌, ◌≤◌, length};
-ghost use Rattle.memory.specs.Bytes.{word_from, pasted};
+ghost use Rattle.std.specs.Prelude.{◌≡◌, length};
 ghost use Rattle.model.specs.Engine.{make};
 ghost use Rattle.model.specs.Journal.{history};
 ghost use Rattle.model.specs.Laws.{Lawful};
@@ -15,22 +14,6 @@ use memory::shared::Memory;
 use outlet::waiting::Outlet;
 use wire::call::decode;
 use wire::reply::{fault_bytes, reply_bytes};
-
-// The word of the four bytes from `at` on.
-fn word_from(bytes: &[u8], at: usize) -> u32
-    requires { at + 4 ≤ length bytes.now }
-    ensures { result ≡ word_from bytes.now at }
-{
-    u32::from_be_bytes([bytes[at], bytes[at + 1], bytes[at + 2], bytes[at + 3]])
-}
-
-// Puts eight bytes from `at` on.
-fn put_eight(bytes: &mut [u8], at: usize, new: [u8; 8])
-    requires { at + 8 ≤ length bytes.old }
-    ensures { bytes.new ≡ pasted bytes.old at new }
-{
-    bytes[at..at + 8].copy_from_slice(&new);
-}
 
 // Plays one word of a packed list, and gives the bytes that answer it.
 fn answer<M: Memory, O: Outlet>(desk: &mut Desk<M, O>, word: u32) -> [u8; 8]
@@ -65,10 +48,12 @@ pub fn play_packed<M: Memory, O: Outlet>(
     ensures lawful { Lawful (settings_of settings.entry) (M.Memory.words memory) (outlet_of O.Outlet outlet) (calls_in (words_played calls.now answers.old)) }
 {
     let mut desk = Desk::make(settings, memory, outlet);
-    let count = (calls.len() / 4).min(answers.len() / 8);
-    for i in 0..count {
-        let bytes = answer(&mut desk, word_from(calls, 4 * i));
-        put_eight(answers, 8 * i, bytes);
+    let (words, _) = calls.as_chunks::<4>();
+    let count = words.len().min(answers.len() / 8);
+    for (i, word) in words[..count].iter().enumerate() {
+        let at = 8 * i;
+        let bytes = answer(&mut desk, u32::from_be_bytes(*word));
+        answers[at..at + 8].copy_from_slice(&bytes);
     }
     Played { desk, count }
 }

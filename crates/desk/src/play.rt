@@ -29,8 +29,8 @@ pub fn play<M: Memory, O: Outlet>(
 {
     let mut desk = Desk::make(settings, memory, outlet);
     let count = calls.len().min(replies.len());
-    for i in 0..count {
-        replies[i] = desk.perform(calls[i]);
+    for (i, call) in calls[..count].iter().enumerate() {
+        replies[i] = desk.perform(*call);
     }
     desk
 }

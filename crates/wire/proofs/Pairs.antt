@@ -1,9 +1,11 @@
 -- The numbers that pairs of bytes hold: how many, and which.
 -- Assumes nothing.
-use Rattle.std.proofs.Common.{◌≡◌, ℕ, zero, suc, ◌+◌, ◌-◌, ◌*◌, ◌/◌, ◌<◌, ◌≤◌, min, ◌⊎◌, List, [], ◌∷◌, ◌++◌, length, get_or, take, drop, set, sym, refl, ap, ◌∙◌, inl, inr, append_assoc, arith, length-take-le, take_all}
+use Rattle.std.proofs.Common.{◌≡◌, ℕ, zero, suc, ◌+◌, ◌-◌, ◌/◌, ◌<◌, ◌≤◌, min, ◌⊎◌, List, [], ◌∷◌, ◌++◌, length, get_or, take, drop, set, sym, refl, ap, ◌∙◌, inl, inr, append_assoc, arith, length-take-le, take_all}
 use lib.Seq.{set_at}
-use Rattle.std.proofs.lemmas.List.{take_more, drop_more, take_rest}
+use Rattle.std.proofs.lemmas.List.{take_more, drop_more, take_rest, get_or-take}
 use Rattle.std.proofs.lemmas.Bool.{cases_lt}
+use Rattle.std.specs.Int.{from_be_bytes, w16}
+use Rattle.std.specs.Simd.{first_chunks}
 use Rattle.wire.specs.Settings.{pairs_in, lines_in, places_in}
 
 -- one number for every two bytes
@@ -12,16 +14,18 @@ pairs_length [] = refl
 pairs_length (a ∷ []) = refl
 pairs_length (a ∷ b ∷ rest) = let h = pairs_length rest in omega arith
 
--- the number at a place is that of the two bytes there
-pub pair_at : (bs : List ℕ) (i : ℕ) → i < length (pairs_in bs) → get_or bs (2 * i) 0 * 256 + get_or bs (2 * i + 1) 0 ≡ get_or (pairs_in bs) i 0
-pair_at [] i h = absurd (omega arith)
-pair_at (a ∷ []) i h = absurd (omega arith)
-pair_at (a ∷ b ∷ rest) zero h = refl
-pair_at (a ∷ b ∷ rest) (suc i) h =
-    let k : i < length (pairs_in rest) = omega arith in
-    let e : 2 * suc i ≡ suc (suc (2 * i)) = omega arith in
-    let f : suc (suc (2 * i)) + 1 ≡ suc (suc (2 * i + 1)) = omega arith in
-    rw (e, f) (pair_at rest i k)
+-- the number of a chunk of two bytes is the one at its place
+in_chunks : (bs : List ℕ) (k i : ℕ) (none : List ℕ) → i < k → k ≤ length (pairs_in bs) → from_be_bytes w16 (get_or (first_chunks 2 k bs) i none) ≡ get_or (pairs_in bs) i 0
+in_chunks bs zero i none h few = absurd (omega arith)
+in_chunks [] (suc k) i none h few = absurd (omega arith)
+in_chunks (a ∷ []) (suc k) i none h few = absurd (omega arith)
+in_chunks (a ∷ b ∷ rest) (suc k) zero none h few = omega arith
+in_chunks (a ∷ b ∷ rest) (suc k) (suc i) none h few = in_chunks rest k i none (omega arith) (omega arith)
+
+pub chunk_pair : (bs : List ℕ) (chunks : List (List ℕ)) (count i : ℕ) (none : List ℕ) → chunks ≡ first_chunks 2 (length bs / 2) bs → i < count → count ≤ length bs / 2 → from_be_bytes w16 (get_or (take count chunks) i none) ≡ get_or (pairs_in bs) i 0
+chunk_pair bs chunks count i none are h few =
+    let n = pairs_length bs in
+    ap (from_be_bytes w16) (get_or-take count chunks i none h ∙ ap (λ l. get_or l i none) are) ∙ in_chunks bs (length bs / 2) i none (omega arith) (omega arith)
 
 -- so many numbers are written to the first places of a list
 pub Filled : List ℕ → List ℕ → ℕ → List ℕ → Type 0

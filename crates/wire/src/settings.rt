@@ -1,5 +1,5 @@
 // What an engine is made from besides program, memory and outlet, as bytes.
-ghost use Rattle.std.specs.Prelude.{◌≡◌, ◌+◌, ◌*◌, ◌≤◌, ◌++◌, length, take, drop, slice_index};
+ghost use Rattle.std.specs.Prelude.{◌≡◌, ◌≤◌, ◌++◌, length, take, drop};
 ghost use Rattle.wire.specs.Settings.{pairs_in, lines_in, places_in};
 
 // More entry places than an engine can have cores.
@@ -15,22 +15,15 @@ pub struct Settings {
     ghost sized: { length places ≡ 9 },
 }
 
-// The number of the pair of bytes from `at` on.
-fn pair_from(bytes: &[u8], at: usize) -> usize
-    requires { at + 2 ≤ length bytes.now }
-    ensures { result ≡ slice_index bytes.now at * 256 + slice_index bytes.now (at + 1) }
-{
-    bytes[at] as usize * 256 + bytes[at + 1] as usize
-}
-
 // Writes the numbers of pairs of bytes to the first places of a list, as many as fit, and answers how many.
 fn pairs(bytes: &[u8], list: &mut [usize]) -> usize
     ensures count { result ≡ length (take (length list.old) (pairs_in bytes.now)) }
     ensures after { list.new ≡ take (length list.old) (pairs_in bytes.now) ++ drop result list.old }
 {
-    let count = (bytes.len() / 2).min(list.len());
-    for i in 0..count {
-        list[i] = pair_from(bytes, 2 * i);
+    let (pairs, _) = bytes.as_chunks::<2>();
+    let count = pairs.len().min(list.len());
+    for (i, pair) in pairs[..count].iter().enumerate() {
+        list[i] = usize::from(u16::from_be_bytes(*pair));
     }
     count
 }

@@ -1,7 +1,8 @@
-use Rattle.std.proofs.Common.{◌++◌, length, drop, sym, ap, ◌∙◌, arith}
+use Rattle.std.proofs.Common.{◌++◌, length, drop, sym, ap, ◌∙◌, arith, length-take-le}
+use Rattle.std.proofs.lemmas.List.{get_or-take}
 use Rattle.model.specs.declared.call.Call.TheVariants.{Step}
 use Rattle.model.specs.Engine.{Engine as ModelEngine}
-use Rattle.model.specs.Runs.{plays, replies}
+use Rattle.model.specs.Runs.{reply, played, plays, replies}
 use Rattle.laws.proofs.Laws.{lawful, is_played}
 use Rattle.engine.specs.Engines.{outlet_of, settings_of, playable}
 use Rattle.desk.specs.Desks.{desk_engine}
@@ -10,7 +11,13 @@ use Rattle.desk.proofs.play.play.Goals as goal
 
 pub loop-i-preserved : goal.loop-i-preserved
 loop-i-preserved g c =
-    sofar_more (desk_engine g.M.Memory g.O.Outlet c.make-desk.result) (desk_engine g.M.Memory g.O.Outlet c.loop-i.desk) (desk_engine g.M.Memory g.O.Outlet c.perform.new.self) c.args.calls.now c.args.replies.now c.loop-i.replies c.loop-i.i (Step 0) c.perform.result (omega (arith, c.min-count.ensures)) (omega (arith, c.min-count.ensures)) c.perform.ensures.after c.perform.ensures.reply c.loop-i.invariant
+    let calls = c.args.calls.now in
+    let n = c.min-count.result in
+    let i = c.loop-i.i in
+    let desk = desk_engine g.M.Memory g.O.Outlet c.loop-i.desk in
+    let long = length-take-le n calls (omega (arith, c.min-count.ensures)) in
+    let call = get_or-take n calls i (Step 0) (omega arith) in
+    sofar_more (desk_engine g.M.Memory g.O.Outlet c.make-desk.result) desk (desk_engine g.M.Memory g.O.Outlet c.perform.new.self) calls c.args.replies.now c.loop-i.replies i (Step 0) c.perform.result (omega (arith, c.min-count.ensures)) (omega (arith, c.min-count.ensures)) (c.perform.ensures.after ∙ ap (played desk) call) (c.perform.ensures.reply ∙ ap (reply desk) call) c.loop-i.invariant
 
 pub returns : goal.returns
 returns g c =
@@ -19,6 +26,7 @@ returns g c =
     let s = settings_of c.args.settings in
     let m = g.M.Memory.words c.args.memory in
     let o = outlet_of g.O.Outlet c.args.outlet in
+    let long = length-take-le c.min-count.result calls (omega (arith, c.min-count.ensures)) in
     let start = desk_engine g.M.Memory g.O.Outlet c.make-desk.result in
     let all = sofar_all start (desk_engine g.M.Memory g.O.Outlet c.loop-i.desk) calls olds c.loop-i.replies c.loop-i.i (omega (arith, c.min-count.ensures)) c.loop-i.invariant in
     record {
