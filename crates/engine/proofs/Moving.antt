@@ -1,10 +1,10 @@
 -- What a step sees and leaves, over the lists that an engine means.
 -- Assumes nothing.
-use Rattle.std.proofs.Common.{◌≡◌, ℕ, zero, suc, ◌<◌, ◌≤◌, ltb, List, [], ◌∷◌, map, length, get_or, take, set, replicate, Err, sym, refl, ap, ◌∙◌, inl, inr, le_of_suc-le-suc, arith, length-take-le, get_or-take, ltb-false}
+use Rattle.std.proofs.Common.{◌≡◌, ℕ, zero, suc, ◌<◌, ◌≤◌, ltb, List, [], ◌∷◌, map, length, get_or, take, set, replicate, Ok, Err, sym, refl, ap, ◌∙◌, le_of_suc-le-suc, arith, length-take-le, get_or-take, ltb-false}
 use lib.Seq.{map-set}
 use Rattle.std.proofs.lemmas.List.{get_or-map, get_or_past}
-use Rattle.std.proofs.lemmas.Bool.{cases_Bool}
-use Rattle.answers.specs.declared.refusal.OutsideMemory.{OutsideMemory}
+use Rattle.std.proofs.lemmas.Bool.{cond_both}
+use Rattle.std.specs.Result.{result_unwrap_or}
 use Rattle.memory.specs.Shared.{word_at}
 use Rattle.formats.specs.declared.instruction.Instruction.{Instruction}
 use Rattle.model.specs.declared.state.Token.{Token}
@@ -37,10 +37,7 @@ pub same_scene : (program : List Instruction) (capacity : ℕ) (token : Token) (
 same_scene program capacity token n m w v r q i j e f g h =
     λ k. record { program = program; capacity = capacity; memory = replicate (e k) (f k); room = g k; token = token; self = h k }
 
--- a read that is refused lies past the end
-pub outside_zero : (ws : List ℕ) (a : ℕ) (r : OutsideMemory) → Err r ≡ word_at ws a → 0 ≡ get_or ws a 0
-outside_zero ws a r is =
-    elim (cases_Bool (ltb a (length ws))) [
-      | inl t ↦ let z : ◌≡◌ {A = ℕ} 0 1 = cc (rw t at is) in absurd (omega arith)
-      | inr t ↦ sym (get_or_past ws a 0 (ltb-false a (length ws) t))
-    ]
+-- what a read answers, 0 where it is refused: past the end there is no word
+pub read_or_zero : (ws : List ℕ) (a : ℕ) → result_unwrap_or (word_at ws a) 0 ≡ get_or ws a 0
+read_or_zero ws a =
+    cond_both (ltb a (length ws)) (Ok (get_or ws a 0)) (Err (record {})) (λ r. result_unwrap_or r 0 ≡ get_or ws a 0) (λ _. refl) (λ t. sym (get_or_past ws a 0 (ltb-false a (length ws) t)))

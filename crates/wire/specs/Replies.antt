@@ -4,7 +4,7 @@
 use Rattle.std.specs.Prelude.{ℕ, ◌%◌, List, ◌∷◌, Ok, Err, Result}
 use Rattle.answers.specs.declared.answer.Answer.{Answer}
 use Rattle.answers.specs.declared.answer.Answer.TheVariants.{Running, Waiting, Done, Committing, Early, Full, Stopped, RolledBack, Retried, Faulted}
-use Rattle.answers.specs.Answers.{fault_number}
+use Rattle.answers.specs.Answers.{fault_number, answer_number}
 use Rattle.answers.specs.Refusals.{nothing_waits_number}
 use Rattle.answers.specs.declared.refusal.NothingWaits.{NothingWaits}
 use Rattle.formats.specs.declared.entry.SentEntry.{SentEntry}
@@ -15,24 +15,23 @@ use Rattle.model.specs.declared.call.Reply.{Reply}
 use Rattle.model.specs.declared.call.Reply.TheVariants.{Stepped, Cleared, Held, Word, GivenBack, Taken}
 use Rattle.model.specs.Refusals.{step_number, clear_number, hold_number, read_number, give_back_number}
 use Rattle.wire.specs.declared.call.CallFault.{CallFault}
+use Rattle.wire.specs.declared.reply.Asked.{Asked}
+use Rattle.wire.specs.declared.reply.Asked.TheVariants.{NoCall, Step, Clear, Hold, Read, GiveBack, Take}
 use Rattle.wire.specs.Calls.{fault_number as call_fault_number}
+
+-- what was asked, by number
+abbrev pub asked_number : Asked → ℕ
+asked_number NoCall = 0
+asked_number Step = 1
+asked_number Clear = 3
+asked_number Hold = 4
+asked_number Read = 5
+asked_number GiveBack = 6
+asked_number Take = 7
 
 -- the eight bytes, by place: four numbers, and a word, most significant byte first
 abbrev pub entry : ℕ → ℕ → ℕ → ℕ → ℕ → List ℕ
 entry kind refusal answer fault word = kind ∷ refusal ∷ answer ∷ fault ∷ bytes_of word
-
--- a step's answer, by number
-abbrev pub answer_number : Answer → ℕ
-answer_number Running = 1
-answer_number Waiting = 2
-answer_number Done = 3
-answer_number Committing = 4
-answer_number Early = 5
-answer_number Full = 6
-answer_number Stopped = 7
-answer_number RolledBack = 8
-answer_number Retried = 9
-answer_number (Faulted f pc) = 10
 
 -- the number of a step's fault, 0 where there is none
 abbrev pub fault_in : Answer → ℕ

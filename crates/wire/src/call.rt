@@ -12,9 +12,9 @@ const OPERANDS: usize = 16777216;
 #[derive(Clone, Copy, PartialEq, Eq, Debug)]
 pub enum CallFault {
     // the kind is none of 1 to 7
-    UnknownKind,
+    UnknownKind = 2,
     // an operand where the kind has none
-    BadOperand,
+    BadOperand = 3,
 }
 
 impl CallFault {
@@ -22,10 +22,7 @@ impl CallFault {
     pub fn number(self) -> u8
         ensures { result ≡ fault_number self }
     {
-        match self {
-            CallFault::UnknownKind => 2,
-            CallFault::BadOperand => 3,
-        }
+        self as u8
     }
 }
 

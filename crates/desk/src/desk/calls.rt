@@ -19,7 +19,6 @@ use model::refusal::{
 };
 use model::state::{Look, Token};
 use outlet::waiting::Outlet;
-use std::mem;
 
 impl<M: Memory, O: Outlet> Desk<M, O> {
     // A new engine, which the host does not hold.
@@ -53,12 +52,10 @@ impl<M: Memory, O: Outlet> Desk<M, O> {
         ensures after { desk_engine M.Memory O.Outlet self.new ≡ (hold (desk_engine M.Memory O.Outlet self.old)).engine }
         ensures answer { result ≡ (hold (desk_engine M.Memory O.Outlet self.old)).answer }
     {
-        match self.engine.hold() {
-            Ok(pass) => match mem::replace(&mut self.pass, Some(pass)) {
-                None => Ok(()),
-                Some(_before) => unreachable(),
-            },
-            Err(refusal) => Err(refusal),
+        let pass = self.engine.hold()?;
+        match self.pass.replace(pass) {
+            None => Ok(()),
+            Some(_before) => unreachable(),
         }
     }
 
@@ -67,12 +64,10 @@ impl<M: Memory, O: Outlet> Desk<M, O> {
         ensures after { desk_engine M.Memory O.Outlet self.new ≡ (give_back (desk_engine M.Memory O.Outlet self.old)).engine }
         ensures answer { result ≡ (give_back (desk_engine M.Memory O.Outlet self.old)).answer }
     {
-        match self.pass.take() {
-            None => Err(GiveBackRefusal::NotHeld),
-            Some(pass) => match self.engine.give_back(pass) {
-                Ok(()) => Ok(()),
-                Err((_refusal, _pass)) => unreachable(),
-            },
+        let pass = self.pass.take().ok_or(GiveBackRefusal::NotHeld)?;
+        match self.engine.give_back(pass) {
+            Ok(()) => Ok(()),
+            Err((_refusal, _pass)) => unreachable(),
         }
     }
 
@@ -80,10 +75,8 @@ impl<M: Memory, O: Outlet> Desk<M, O> {
     pub fn read(&self, address: usize) -> Result<u32, ReadRefusal>
         ensures { result ≡ read (desk_engine M.Memory O.Outlet self.now) address }
     {
-        match &self.pass {
-            None => Err(ReadRefusal::NotHeld),
-            Some(pass) => self.engine.read(pass, address),
-        }
+        let pass = self.pass.as_ref().ok_or(ReadRefusal::NotHeld)?;
+        self.engine.read(pass, address)
     }
 
     // Takes the oldest entry out of the outlet.

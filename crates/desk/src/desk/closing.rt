@@ -26,12 +26,12 @@ impl<M: Memory + Drop, O: Outlet + Drop> Desk<M, O> {
         ensures { result ≡ host_has (desk_engine M.Memory O.Outlet self).token }
     {
         let Desk { mut engine, pass } = self;
-        match pass {
-            None => false,
-            Some(pass) => match engine.give_back(pass) {
-                Ok(()) => true,
-                Err((_refusal, _pass)) => unreachable(),
-            },
+        let Some(pass) = pass else {
+            return false;
+        };
+        match engine.give_back(pass) {
+            Ok(()) => true,
+            Err((_refusal, _pass)) => unreachable(),
         }
     }
 }

@@ -31,10 +31,7 @@ impl<M: Memory, O: Outlet> Engine<M, O> {
     fn word_or_zero(&self, address: usize) -> u32
         ensures { result ≡ slice_index (M.Memory.words self.now.memory) address }
     {
-        match self.memory.read(address) {
-            Ok(word) => word,
-            Err(_) => 0,
-        }
+        self.memory.read(address).unwrap_or(0)
     }
 
     // What a step of a core sees.

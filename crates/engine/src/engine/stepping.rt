@@ -19,7 +19,7 @@ fn wanted(token: Token, i: usize) -> usize
     ensures { result ≡ wanted token i }
 {
     match token {
-        Token::Core(holder) => { if holder == i { 1 } else { 2 } }
+        Token::Core(holder) if holder != i => 2,
         _ => 1,
     }
 }
@@ -64,12 +64,8 @@ impl<M: Memory, O: Outlet> Engine<M, O> {
         ensures after { engine_of M.Memory O.Outlet self.new ≡ (turn (engine_of M.Memory O.Outlet self.old)).engine }
         ensures answer { result ≡ (turn (engine_of M.Memory O.Outlet self.old)).answer }
     {
-        match self.step(self.next) {
-            Ok(answer) => {
-                self.next = following(self.next, self.table.count);
-                Ok(answer)
-            }
-            Err(refusal) => Err(refusal),
-        }
+        let answer = self.step(self.next)?;
+        self.next = following(self.next, self.table.count);
+        Ok(answer)
     }
 }
