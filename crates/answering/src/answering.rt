@@ -1,7 +1,6 @@
 // What an engine answers to the console's commands, over any memory and any outlet.
 ghost use Rattle.std.specs.Prelude.{◌≡◌, IfOk, string_bytes};
 ghost use Rattle.bank.specs.Logs.{as_turn};
-ghost use Rattle.desk.specs.Desks.{desk_engine};
 ghost use Rattle.answering.specs.Answered.{done_told, word_told, taken_told, turn_told, TagsTold, Told, engine_after};
 ghost use Rattle.render.specs.Told.{spaced_text};
 
@@ -83,7 +82,7 @@ fn tell_tags<M: Memory, O: Outlet>(
     core: usize,
     places: usize,
 ) -> Result<String, AllocError>
-    ensures { IfOk result (λ s. TagsTold (desk_engine M.Memory O.Outlet desk.now) core places (string_bytes s)) }
+    ensures { IfOk result (λ s. TagsTold desk.now core places (string_bytes s)) }
 {
     let mut list: Vec<usize> = vec![in heap; 0; places]?;
     match desk.tags(core, list.as_mut_slice()) {
@@ -102,8 +101,8 @@ pub fn tell_answer<M: Memory, O: Outlet>(
     desk: &mut Desk<M, O>,
     command: EngineCommand,
 ) -> Result<String, AllocError>
-    ensures after { desk_engine M.Memory O.Outlet desk.new ≡ engine_after (desk_engine M.Memory O.Outlet desk.old) command }
-    ensures told { IfOk result (λ s. Told (desk_engine M.Memory O.Outlet desk.old) command (string_bytes s)) }
+    ensures after { desk.new ≡ engine_after desk.old command }
+    ensures told { IfOk result (λ s. Told desk.old command (string_bytes s)) }
 {
     match command {
         EngineCommand::Move(which) => tell_moved(heap, advance(desk, which)),

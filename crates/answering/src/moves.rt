@@ -1,6 +1,5 @@
 // Moves of an engine, over any memory and any outlet.
 ghost use Rattle.std.specs.Prelude.{◌≡◌, IfOk, string_bytes};
-ghost use Rattle.desk.specs.Desks.{desk_engine};
 ghost use Rattle.answering.specs.Repeated.{moved, repeated, repeated_told};
 
 use answers::answer::Answer;
@@ -17,8 +16,8 @@ pub(crate) fn advance<M: Memory, O: Outlet>(
     desk: &mut Desk<M, O>,
     which: Move,
 ) -> Result<Answer, StepRefusal>
-    ensures after { desk_engine M.Memory O.Outlet desk.new ≡ (moved (desk_engine M.Memory O.Outlet desk.old) which).engine }
-    ensures answer { result ≡ (moved (desk_engine M.Memory O.Outlet desk.old) which).answer }
+    ensures after { desk.new ≡ (moved desk.old which).engine }
+    ensures answer { result ≡ (moved desk.old which).answer }
 {
     match which {
         Move::Step(i) => desk.step(i),
@@ -39,8 +38,8 @@ pub(crate) fn repeat<M: Memory, O: Outlet>(
     which: Move,
     times: usize,
 ) -> Moved
-    ensures after { desk_engine M.Memory O.Outlet desk.new ≡ (repeated (desk_engine M.Memory O.Outlet desk.old) which times).engine }
-    ensures answer { result ≡ (repeated (desk_engine M.Memory O.Outlet desk.old) which times).answer }
+    ensures after { desk.new ≡ (repeated desk.old which times).engine }
+    ensures answer { result ≡ (repeated desk.old which times).answer }
 {
     let mut last = None;
     for called in 0..times {

@@ -4,7 +4,6 @@ ghost use Rattle.model.specs.Engine.{make};
 ghost use Rattle.model.specs.Journal.{history};
 ghost use Rattle.model.specs.Laws.{Lawful};
 ghost use Rattle.engine.specs.Engines.{outlet_of, settings_of};
-ghost use Rattle.desk.specs.Desks.{desk_engine};
 ghost use Rattle.wire.specs.Calls.{call_of};
 ghost use Rattle.bench.specs.Playing.{answered, after, calls_in, words_played, answers_left};
 
@@ -17,8 +16,8 @@ use wire::reply::{fault_bytes, reply_bytes};
 
 // Plays one word of a packed list, and gives the bytes that answer it.
 fn answer<M: Memory, O: Outlet>(desk: &mut Desk<M, O>, word: u32) -> [u8; 8]
-    ensures after { desk_engine M.Memory O.Outlet desk.new ≡ after (desk_engine M.Memory O.Outlet desk.old) (call_of word) }
-    ensures answer { result ≡ answered (desk_engine M.Memory O.Outlet desk.old) (call_of word) }
+    ensures after { desk.new ≡ after desk.old (call_of word) }
+    ensures answer { result ≡ answered desk.old (call_of word) }
 {
     match decode(word) {
         Ok(call) => reply_bytes(desk.perform(call)),
@@ -42,7 +41,7 @@ pub fn play_packed<M: Memory, O: Outlet>(
     calls: &[u8],
     answers: &mut [u8],
 ) -> Played<M, O>
-    ensures engine { desk_engine M.Memory O.Outlet result.desk ≡ (history (settings_of settings.entry) (M.Memory.words memory) (outlet_of O.Outlet outlet) (calls_in (words_played calls.now answers.old))).engine }
+    ensures engine { result.desk ≡ (history (settings_of settings.entry) (M.Memory.words memory) (outlet_of O.Outlet outlet) (calls_in (words_played calls.now answers.old))).engine }
     ensures count { result.count ≡ length (words_played calls.now answers.old) }
     ensures answers { answers.new ≡ answers_left (make (settings_of settings.entry) (M.Memory.words memory) (outlet_of O.Outlet outlet)) (words_played calls.now answers.old) answers.old }
     ensures lawful { Lawful (settings_of settings.entry) (M.Memory.words memory) (outlet_of O.Outlet outlet) (calls_in (words_played calls.now answers.old)) }

@@ -2,4 +2,3 @@ pub mod Making
 pub mod Moving
 pub mod Rooms
 pub mod Applying
-pub mod Refusing

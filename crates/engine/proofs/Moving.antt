@@ -1,16 +1,13 @@
--- What a step sees and leaves, over the lists that an engine means.
+-- The cores of an engine, over the table that they stand in.
 -- Assumes nothing.
-use Rattle.std.proofs.Common.{◌≡◌, ℕ, zero, suc, ◌<◌, ◌≤◌, ltb, List, [], ◌∷◌, map, length, get_or, take, set, replicate, Ok, Err, sym, refl, ap, ◌∙◌, le_of_suc-le-suc, arith, length-take-le, get_or-take, ltb-false}
+use Rattle.std.proofs.Common.{◌≡◌, ℕ, zero, suc, ◌<◌, ◌≤◌, List, [], ◌∷◌, map, length, get_or, take, set, Result, refl, ap, ◌∙◌, le_of_suc-le-suc, arith, length-take-le, get_or-take, lt-ltb}
 use lib.Seq.{map-set}
-use Rattle.std.proofs.lemmas.List.{get_or-map, get_or_past}
-use Rattle.std.proofs.lemmas.Bool.{cond_both}
-use Rattle.std.specs.Result.{result_unwrap_or}
-use Rattle.memory.specs.Shared.{word_at}
-use Rattle.formats.specs.declared.instruction.Instruction.{Instruction}
-use Rattle.model.specs.declared.state.Token.{Token}
-use Rattle.model.specs.Cores.{View}
-use Rattle.model.specs.Engine.{blank}
+use Rattle.std.proofs.lemmas.List.{get_or-map, length-map}
+use Rattle.model.specs.declared.refusal.TagsRefusal.{TagsRefusal}
+use Rattle.model.specs.Engine.{Engine, blank, core_at}
+use Rattle.model.specs.Calls.{Tags}
 use Rattle.cores.specs.declared.unit.Core.{Core}
+use Rattle.cores.specs.Tags.{LineTags}
 use Rattle.cores.specs.Units.{core_of}
 
 -- the core in a place of the table
@@ -32,12 +29,10 @@ core_put cores n i c h = ap (map core_of) (take_put cores n i c h) ∙ map-set c
     take_put (d ∷ cores) (suc n) zero c h = refl
     take_put (d ∷ cores) (suc n) (suc i) c h = ap (λ l. d ∷ l) (take_put cores n i c (le_of_suc-le-suc h))
 
--- two scenes that agree
-pub same_scene : (program : List Instruction) (capacity : ℕ) (token : Token) (n m w v r q i j : ℕ) → n ≡ m → w ≡ v → r ≡ q → i ≡ j → ◌≡◌ {A = View} (record { program = program; capacity = capacity; memory = replicate n w; room = r; token = token; self = i }) (record { program = program; capacity = capacity; memory = replicate m v; room = q; token = token; self = j })
-same_scene program capacity token n m w v r q i j e f g h =
-    λ k. record { program = program; capacity = capacity; memory = replicate (e k) (f k); room = g k; token = token; self = h k }
+-- as many cores as are in use
+pub cores_length : (cores : List Core) (n : ℕ) → n ≤ length cores → length (map core_of (take n cores)) ≡ n
+cores_length cores n h = length-map (take n cores) core_of ∙ length-take-le n cores h
 
--- what a read answers, 0 where it is refused: past the end there is no word
-pub read_or_zero : (ws : List ℕ) (a : ℕ) → result_unwrap_or (word_at ws a) 0 ≡ get_or ws a 0
-read_or_zero ws a =
-    cond_both (ltb a (length ws)) (Ok (get_or ws a 0)) (Err (record {})) (λ r. result_unwrap_or r 0 ≡ get_or ws a 0) (λ _. refl) (λ t. sym (get_or_past ws a 0 (ltb-false a (length ws) t)))
+-- the tags of a core
+pub tags_some : (e : Engine) (i : ℕ) (before after : List ℕ) (answer : Result ℕ TagsRefusal) → i < length e.cores → LineTags (core_at e i).lines before after answer → Tags e i before after answer
+tags_some e i before after answer h t = rw (lt-ltb i (length e.cores) h) t

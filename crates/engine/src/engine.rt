@@ -1,19 +1,18 @@
 // An engine over any memory and any outlet.
-ghost use Rattle.std.specs.Prelude.{◌≡◌, ◌<◌, ◌≤◌, length};
-
 use bank::log::Log;
 use bank::table::Table;
 use memory::shared::Memory;
 use model::state::Token;
 use outlet::waiting::Outlet;
 use program::program::Program;
+use std::marker::Model;
 
 mod calls;
-pub mod making;
+mod making;
 mod moving;
 mod stepping;
 
-// The host changes an engine only by its calls.
+// It is seen as the model's engine. The host changes it only by its calls.
 #[derive(Drop)]
 pub struct Engine<M: Memory, O: Outlet> {
     program: Program,
@@ -24,8 +23,16 @@ pub struct Engine<M: Memory, O: Outlet> {
     token: Token,
     log: Log,
     next: usize,
-    ghost few: { table.count ≤ 8 },
-    ghost sized: { length table.cores ≡ 8 },
-    ghost lines: { (0 < table.count → capacity ≤ 32) },
-    ghost soon: { next ≤ 8 },
+}
+
+impl<M: Memory, O: Outlet> Model for Engine<M, O> {
+    ghost use Rattle.model.specs.Engine.{Engine as ModelEngine};
+
+    ghost Value = { ModelEngine };
+
+    ghost use Rattle.engine.specs.Engines.{engine_of, InRange};
+
+    ghost view = { engine_of M.Memory O.Outlet };
+
+    ghost invariant = { InRange };
 }

@@ -1,7 +1,6 @@
 // A call that is given as a value.
 ghost use Rattle.std.specs.Prelude.{◌≡◌};
 ghost use Rattle.model.specs.Runs.{reply, played};
-ghost use Rattle.desk.specs.Desks.{desk_engine};
 
 use super::Desk;
 use memory::shared::Memory;
@@ -11,8 +10,8 @@ use outlet::waiting::Outlet;
 impl<M: Memory, O: Outlet> Desk<M, O> {
     // Makes a call.
     pub fn perform(&mut self, call: Call) -> Reply
-        ensures after { desk_engine M.Memory O.Outlet self.new ≡ played (desk_engine M.Memory O.Outlet self.old) call }
-        ensures reply { result ≡ reply (desk_engine M.Memory O.Outlet self.old) call }
+        ensures after { self.new ≡ played self.old call }
+        ensures reply { result ≡ reply self.old call }
     {
         match call {
             Call::Step(i) => Reply::Stepped(self.step(i)),

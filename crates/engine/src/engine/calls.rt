@@ -2,7 +2,7 @@
 ghost use Rattle.std.specs.Prelude.{◌≡◌};
 ghost use Rattle.model.specs.Calls.{clear, hold, read, give_back, take_oldest, entry, holder, look, Tags};
 ghost use Rattle.bank.specs.Logs.{as_turn};
-ghost use Rattle.engine.specs.Engines.{engine_of, held_as, given_as};
+ghost use Rattle.engine.specs.Engines.{held_as, given_as};
 
 use super::Engine;
 use crate::pass::Pass;
@@ -18,8 +18,8 @@ use outlet::waiting::Outlet;
 impl<M: Memory, O: Outlet> Engine<M, O> {
     // Empties the record, if the token is free.
     pub fn clear(&mut self) -> Result<(), ClearRefusal>
-        ensures after { engine_of M.Memory O.Outlet self.new ≡ (clear (engine_of M.Memory O.Outlet self.old)).engine }
-        ensures answer { result ≡ (clear (engine_of M.Memory O.Outlet self.old)).answer }
+        ensures after { self.new ≡ (clear self.old).engine }
+        ensures answer { result ≡ (clear self.old).answer }
     {
         match self.token {
             Token::Free => {
@@ -32,8 +32,8 @@ impl<M: Memory, O: Outlet> Engine<M, O> {
 
     // Takes the token for the host and gives out a pass, if the token is free.
     pub fn hold(&mut self) -> Result<Pass, HoldRefusal>
-        ensures after { engine_of M.Memory O.Outlet self.new ≡ (hold (engine_of M.Memory O.Outlet self.old)).engine }
-        ensures answer { held_as result ≡ (hold (engine_of M.Memory O.Outlet self.old)).answer }
+        ensures after { self.new ≡ (hold self.old).engine }
+        ensures answer { held_as result ≡ (hold self.old).answer }
     {
         match self.token {
             Token::Free => {
@@ -46,7 +46,7 @@ impl<M: Memory, O: Outlet> Engine<M, O> {
 
     // Shows the word at an address to the host, if the host has this engine's token.
     pub fn read(&self, _pass: &Pass, address: usize) -> Result<u32, ReadRefusal>
-        ensures { result ≡ read (engine_of M.Memory O.Outlet self.now) address }
+        ensures { result ≡ read self.now address }
     {
         match self.token {
             Token::Host => self
@@ -59,8 +59,8 @@ impl<M: Memory, O: Outlet> Engine<M, O> {
 
     // Gives the token back, if the host has this engine's. On a no the pass stays with the caller.
     pub fn give_back(&mut self, pass: Pass) -> Result<(), (GiveBackRefusal, Pass)>
-        ensures after { engine_of M.Memory O.Outlet self.new ≡ (give_back (engine_of M.Memory O.Outlet self.old)).engine }
-        ensures answer { given_as result ≡ (give_back (engine_of M.Memory O.Outlet self.old)).answer }
+        ensures after { self.new ≡ (give_back self.old).engine }
+        ensures answer { given_as result ≡ (give_back self.old).answer }
     {
         match self.token {
             Token::Host => {
@@ -74,22 +74,22 @@ impl<M: Memory, O: Outlet> Engine<M, O> {
 
     // Takes the oldest entry out of the outlet.
     pub fn take(&mut self) -> Result<SentEntry, NothingWaits>
-        ensures after { engine_of M.Memory O.Outlet self.new ≡ (take_oldest (engine_of M.Memory O.Outlet self.old)).engine }
-        ensures answer { result ≡ (take_oldest (engine_of M.Memory O.Outlet self.old)).answer }
+        ensures after { self.new ≡ (take_oldest self.old).engine }
+        ensures answer { result ≡ (take_oldest self.old).answer }
     {
         self.outlet.take()
     }
 
     // The entry of the record at a place.
     pub fn record(&self, place: usize) -> Result<RecordEntry, RecordRefusal>
-        ensures { as_turn result ≡ entry (engine_of M.Memory O.Outlet self.now) place }
+        ensures { as_turn result ≡ entry self.now place }
     {
         self.log.get(place)
     }
 
     // Who has the token.
     pub fn token(&self) -> Token
-        ensures { result ≡ holder (engine_of M.Memory O.Outlet self.now) }
+        ensures { result ≡ holder self.now }
     {
         let holder = self.token;
         holder
@@ -97,7 +97,7 @@ impl<M: Memory, O: Outlet> Engine<M, O> {
 
     // What people see of a core, or None where there is no such core.
     pub fn look(&self, i: usize) -> Option<Look>
-        ensures { result ≡ look (engine_of M.Memory O.Outlet self.now) i }
+        ensures { result ≡ look self.now i }
     {
         if i < self.table.count {
             Some(self.table.cores[i].look())
@@ -108,7 +108,7 @@ impl<M: Memory, O: Outlet> Engine<M, O> {
 
     // Copies a core's tagged addresses to the first places of a list, each once, and answers their number.
     pub fn tags(&self, i: usize, list: &mut [usize]) -> Result<usize, TagsRefusal>
-        ensures { Tags (engine_of M.Memory O.Outlet self.now) i list.old list.new result }
+        ensures { Tags self.now i list.old list.new result }
     {
         if i >= self.table.count {
             return Err(TagsRefusal::NoSuchCore);

@@ -2,7 +2,7 @@
 ghost use Rattle.std.specs.Prelude.{◌≡◌, ◌<◌, ◌≤◌, length};
 ghost use Rattle.bank.specs.Tables.{cores_of};
 ghost use Rattle.model.specs.Engine.{check, new_cores, make};
-ghost use Rattle.engine.specs.Engines.{outlet_of, engine_of, settings_of};
+ghost use Rattle.engine.specs.Engines.{outlet_of, settings_of};
 
 use super::Engine;
 use crate::settings::Settings;
@@ -31,7 +31,7 @@ fn new_cores(settings: &Settings<'_>, words: usize) -> Table
 impl<M: Memory, O: Outlet> Engine<M, O> {
     // A new engine over a memory and an outlet. From settings that their check refuses it has no core.
     pub fn make(settings: Settings<'_>, memory: M, outlet: O) -> Engine<M, O>
-        ensures { engine_of M.Memory O.Outlet result ≡ make (settings_of settings.entry) (M.Memory.words memory) (outlet_of O.Outlet outlet) }
+        ensures { result ≡ make (settings_of settings.entry) (M.Memory.words memory) (outlet_of O.Outlet outlet) }
     {
         let table = new_cores(&settings, memory.len());
         let Settings { program, lines, .. } = settings;

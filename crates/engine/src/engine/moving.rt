@@ -1,10 +1,8 @@
 // Moving one core: it is lent to its step, and the rest of the engine takes what the step came to.
-ghost use Rattle.std.specs.Prelude.{◌≡◌, ◌<◌, slice_index};
-ghost use Rattle.program.specs.Programs.{instructions_of};
+ghost use Rattle.std.specs.Prelude.{◌≡◌, ◌<◌, length, slice_index};
 ghost use Rattle.model.specs.Cores.{outcome};
 ghost use Rattle.model.specs.Engine.{core_at};
 ghost use Rattle.cores.specs.Units.{scene_view};
-ghost use Rattle.engine.specs.Engines.{engine_of};
 ghost use Rattle.engine.specs.Steps.{scene_of, Moved, applied};
 
 use super::Engine;
@@ -29,17 +27,18 @@ fn number(i: usize) -> CoreNumber
 impl<M: Memory, O: Outlet> Engine<M, O> {
     // The word at an address, 0 where there is none.
     fn word_or_zero(&self, address: usize) -> u32
-        ensures { result ≡ slice_index (M.Memory.words self.now.memory) address }
+        ensures { result ≡ slice_index self.now.memory address }
     {
         self.memory.read(address).unwrap_or(0)
     }
 
     // What a step of a core sees.
     pub(crate) fn scene(&self, i: usize) -> Scene
-        requires { i < self.now.table.count }
-        ensures { scene_view (instructions_of self.now.program) result ≡ scene_of (engine_of M.Memory O.Outlet self.now) i }
+        requires { i < length self.now.cores }
+        ensures { scene_view self.now.program result ≡ scene_of self.now i }
     {
-        let address = self.table.cores[i].load_address(&self.program);
+        let program = &self.program;
+        let address = self.table.cores[i].load_address(program);
         let word = self.word_or_zero(address);
         Scene {
             capacity: self.capacity,
@@ -53,16 +52,16 @@ impl<M: Memory, O: Outlet> Engine<M, O> {
 
     // The core moves; the rest of the engine stays as it is.
     pub(crate) fn move_core(&mut self, i: usize, scene: Scene) -> Outcome
-        requires { i < self.old.table.count }
-        ensures { Moved (engine_of M.Memory O.Outlet self.old) (engine_of M.Memory O.Outlet self.new) i result (outcome (scene_view (instructions_of self.old.program) scene) (core_at (engine_of M.Memory O.Outlet self.old) i)) }
+        requires { i < length self.old.cores }
+        ensures { Moved self.old self.new i result (outcome (scene_view self.old.program scene) (core_at self.old i)) }
     {
-        let core = &mut self.table.cores[i];
-        core.step(&self.program, scene)
+        let program = &self.program;
+        self.table.cores[i].step(program, scene)
     }
 
     // The rest of the engine takes what a core's move came to.
     pub(crate) fn apply(&mut self, i: usize, outcome: Outcome)
-        ensures { engine_of M.Memory O.Outlet self.new ≡ applied (engine_of M.Memory O.Outlet self.old) i outcome }
+        ensures { self.new ≡ applied self.old i outcome }
     {
         match outcome.effect {
             Effect::Nothing => {}

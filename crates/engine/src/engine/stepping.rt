@@ -2,7 +2,6 @@
 ghost use Rattle.std.specs.Prelude.{◌≡◌, ◌<◌, ◌≤◌, length};
 ghost use Rattle.model.specs.Engine.{change};
 ghost use Rattle.model.specs.Calls.{wanted, outcome_of, step, following, turn};
-ghost use Rattle.engine.specs.Engines.{engine_of};
 
 use super::Engine;
 use answers::answer::Answer;
@@ -35,9 +34,9 @@ fn following(i: usize, count: usize) -> usize
 impl<M: Memory, O: Outlet> Engine<M, O> {
     // A step of a core that is not refused.
     fn advance(&mut self, i: usize) -> Answer
-        requires { (i < self.old.table.count) × (length (engine_of M.Memory O.Outlet self.old).entries < 1024) }
-        ensures after { engine_of M.Memory O.Outlet self.new ≡ change (engine_of M.Memory O.Outlet self.old) i (outcome_of (engine_of M.Memory O.Outlet self.old) i) }
-        ensures answer { result ≡ (outcome_of (engine_of M.Memory O.Outlet self.old) i).answer }
+        requires { (i < length self.old.cores) × (length self.old.entries < 1024) }
+        ensures after { self.new ≡ change self.old i (outcome_of self.old i) }
+        ensures answer { result ≡ (outcome_of self.old i).answer }
     {
         let scene = self.scene(i);
         let outcome = self.move_core(i, scene);
@@ -47,8 +46,8 @@ impl<M: Memory, O: Outlet> Engine<M, O> {
 
     // Moves one core. Refused where there is no such core, or the record is full.
     pub fn step(&mut self, i: usize) -> Result<Answer, StepRefusal>
-        ensures after { engine_of M.Memory O.Outlet self.new ≡ (step (engine_of M.Memory O.Outlet self.old) i).engine }
-        ensures answer { result ≡ (step (engine_of M.Memory O.Outlet self.old) i).answer }
+        ensures after { self.new ≡ (step self.old i).engine }
+        ensures answer { result ≡ (step self.old i).answer }
     {
         if i >= self.table.count {
             return Err(StepRefusal::NoSuchCore);
@@ -61,8 +60,8 @@ impl<M: Memory, O: Outlet> Engine<M, O> {
 
     // Moves the core whose turn it is. The next one is next, unless the turn was refused.
     pub fn turn(&mut self) -> Result<Answer, StepRefusal>
-        ensures after { engine_of M.Memory O.Outlet self.new ≡ (turn (engine_of M.Memory O.Outlet self.old)).engine }
-        ensures answer { result ≡ (turn (engine_of M.Memory O.Outlet self.old)).answer }
+        ensures after { self.new ≡ (turn self.old).engine }
+        ensures answer { result ≡ (turn self.old).answer }
     {
         let answer = self.step(self.next)?;
         self.next = following(self.next, self.table.count);

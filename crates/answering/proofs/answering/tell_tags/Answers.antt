@@ -2,14 +2,13 @@ use Rattle.std.proofs.Common.{◌≡◌, ℕ, List, ◌++◌, length, take, repl
 use Rattle.std.proofs.lemmas.List.{with_items_is}
 use Rattle.std.proofs.lemmas.Result.{IfOk-weaker}
 use Rattle.model.specs.Calls.{Tags}
-use Rattle.desk.specs.Desks.{desk_engine}
 use Rattle.render.specs.Told.{spaced_text}
 use Rattle.answering.specs.Answered.{TagsTold, tags_text}
 use Rattle.answering.proofs.answering.tell_tags.Goals as goal
 
 pub returns-in-Ok : goal.returns-in-Ok
 returns-in-Ok g c =
-    let e = desk_engine g.M.Memory g.O.Outlet c.args.desk.now in
+    let e = c.args.desk.now in
     let after = c.tags.new.list in
     let count = c.in-Ok.count in
     let zeros : c.as_mut_slice.result.now ≡ replicate c.args.places 0 = c.as_mut_slice.ensures.value ∙ c.in_ok-list.ensures.items_if_clones_equal (λ y is. is) in

@@ -1,6 +1,5 @@
 use Rattle.std.proofs.Common.{◌≡◌, ℕ, suc, ◌+◌, ◌-◌, Some, sym, ap, ◌∙◌, add-one, arith}
 use Rattle.model.specs.Calls.{After, stays}
-use Rattle.desk.specs.Desks.{desk_engine}
 use Rattle.answering.specs.declared.moves.Moved.{Moved}
 use Rattle.answering.specs.Repeated.{further_moves}
 use Rattle.answering.proofs.Further.{none_left, moved_on, moved_last}
@@ -11,8 +10,8 @@ returns-then-is_err g c =
     let called = c.loop-called.called in
     let times = c.args.times in
     let which = c.args.which in
-    let here = desk_engine g.M.Memory g.O.Outlet c.loop-called.desk in
-    let next = desk_engine g.M.Memory g.O.Outlet c.advance-answer.new.desk in
+    let here = c.loop-called.desk in
+    let next = c.advance-answer.new.desk in
     let before : Moved = record { last = c.loop-called.last; count = called } in
     let answer = c.advance-answer.result in
     let more : suc (times - (called + 1)) ≡ times - called = omega arith in
@@ -29,8 +28,8 @@ loop-called-preserved g c =
     let called = c.loop-called.called in
     let times = c.args.times in
     let which = c.args.which in
-    let here = desk_engine g.M.Memory g.O.Outlet c.loop-called.desk in
-    let next = desk_engine g.M.Memory g.O.Outlet c.advance-answer.new.desk in
+    let here = c.loop-called.desk in
+    let next = c.advance-answer.new.desk in
     let before : Moved = record { last = c.loop-called.last; count = called } in
     let answer = c.advance-answer.result in
     let more : suc (times - (called + 1)) ≡ times - called = omega arith in
@@ -45,7 +44,7 @@ returns g c =
     let called = c.loop-called.called in
     let times = c.args.times in
     let which = c.args.which in
-    let here = desk_engine g.M.Memory g.O.Outlet c.loop-called.desk in
+    let here = c.loop-called.desk in
     let none : 0 ≡ times - called = omega arith in
     let same : times ≡ called = omega arith in
     let all =

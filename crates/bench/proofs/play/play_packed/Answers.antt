@@ -5,13 +5,12 @@ use Rattle.memory.proofs.Quads.{words_length, pasted_part}
 use Rattle.model.specs.Engine.{make}
 use Rattle.laws.proofs.Laws.{lawful, is_played}
 use Rattle.engine.specs.Engines.{outlet_of, settings_of}
-use Rattle.desk.specs.Desks.{desk_engine}
 use Rattle.bench.specs.Playing.{calls_in, words_played}
 use Rattle.bench.proofs.Played.{chunk_word, sofar_none, sofar_more, sofar_all}
 use Rattle.bench.proofs.play.play_packed.Goals as goal
 
 pub loop-i-init : goal.loop-i-init
-loop-i-init g c = sofar_none (desk_engine g.M.Memory g.O.Outlet c.make-desk.result) (words_in c.args.calls.now) c.args.answers.now
+loop-i-init g c = sofar_none c.make-desk.result (words_in c.args.calls.now) c.args.answers.now
 
 pub loop-i-preserved : goal.loop-i-preserved
 loop-i-preserved g c =
@@ -28,7 +27,7 @@ loop-i-preserved g c =
     let inside : i < length (words_in calls) = omega (arith, c.min-count.ensures, c.as_chunks.ensures.front_len) in
     let word : c.from_be_bytes.result ≡ get_or (words_in calls) i 0 = c.from_be_bytes.ensures ∙ chunk_word calls chunks count i _ c.as_chunks.ensures.front (omega arith) (omega (arith, c.min-count.ensures, c.as_chunks.ensures.front_len)) in
     let put = ap (put_mid at width news) c.copy_from_slice.ensures.after ∙ pasted_part news at width bytes (omega arith) in
-    sofar_more (desk_engine g.M.Memory g.O.Outlet c.make-desk.result) (desk_engine g.M.Memory g.O.Outlet c.loop-i.desk) (desk_engine g.M.Memory g.O.Outlet c.answer-bytes.new.desk) (words_in calls) c.args.answers.now news _ bytes i c.from_be_bytes.result inside word c.answer-bytes.ensures.after c.answer-bytes.ensures.answer put c.loop-i.invariant
+    sofar_more c.make-desk.result c.loop-i.desk c.answer-bytes.new.desk (words_in calls) c.args.answers.now news _ bytes i c.from_be_bytes.result inside word c.answer-bytes.ensures.after c.answer-bytes.ensures.answer put c.loop-i.invariant
 
 pub returns : goal.returns
 returns g c =
@@ -38,7 +37,7 @@ returns g c =
     let m = g.M.Memory.words c.args.memory in
     let o = outlet_of g.O.Outlet c.args.outlet in
     let long = length-take-le c.min-count.result c.as_chunks.result.0.now (omega (arith, c.min-count.ensures)) in
-    let all = sofar_all (make s m o) (desk_engine g.M.Memory g.O.Outlet c.make-desk.result) (desk_engine g.M.Memory g.O.Outlet c.loop-i.desk) calls olds c.loop-i.answers c.loop-i.i (omega (arith, long, c.min-count.ensures, c.as_chunks.ensures.front_len)) c.make-desk.ensures c.loop-i.invariant in
+    let all = sofar_all (make s m o) c.make-desk.result c.loop-i.desk calls olds c.loop-i.answers c.loop-i.i (omega (arith, long, c.min-count.ensures, c.as_chunks.ensures.front_len)) c.make-desk.ensures c.loop-i.invariant in
     record {
       engine = all.engine ∙ sym (is_played s m o (calls_in (words_played calls olds)));
       count = omega (arith, all.count);

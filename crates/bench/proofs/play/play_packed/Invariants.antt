@@ -1,8 +1,7 @@
 use Rattle.memory.specs.Bytes.{words_in}
-use Rattle.desk.specs.Desks.{desk_engine}
 use Rattle.bench.proofs.Played.{Sofar}
 use Rattle.bench.proofs.play.play_packed.Given as goal
 
 abbrev pub invariant-loop-i : goal.invariant-loop-i
 invariant-loop-i g l =
-    Sofar (desk_engine g.M.Memory g.O.Outlet l.initial.desk) (words_in l.calls) l.initial.answers l.i (desk_engine g.M.Memory g.O.Outlet l.desk) l.answers
+    Sofar l.initial.desk (words_in l.calls) l.initial.answers l.i l.desk l.answers

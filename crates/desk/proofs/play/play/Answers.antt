@@ -5,7 +5,6 @@ use Rattle.model.specs.Engine.{Engine as ModelEngine}
 use Rattle.model.specs.Runs.{reply, played, plays, replies}
 use Rattle.laws.proofs.Laws.{lawful, is_played}
 use Rattle.engine.specs.Engines.{outlet_of, settings_of, playable}
-use Rattle.desk.specs.Desks.{desk_engine}
 use Rattle.desk.proofs.Playing.{sofar_more, sofar_all}
 use Rattle.desk.proofs.play.play.Goals as goal
 
@@ -14,10 +13,10 @@ loop-i-preserved g c =
     let calls = c.args.calls.now in
     let n = c.min-count.result in
     let i = c.loop-i.i in
-    let desk = desk_engine g.M.Memory g.O.Outlet c.loop-i.desk in
+    let desk = c.loop-i.desk in
     let long = length-take-le n calls (omega (arith, c.min-count.ensures)) in
     let call = get_or-take n calls i (Step 0) (omega arith) in
-    sofar_more (desk_engine g.M.Memory g.O.Outlet c.make-desk.result) desk (desk_engine g.M.Memory g.O.Outlet c.perform.new.self) calls c.args.replies.now c.loop-i.replies i (Step 0) c.perform.result (omega (arith, c.min-count.ensures)) (omega (arith, c.min-count.ensures)) (c.perform.ensures.after ∙ ap (played desk) call) (c.perform.ensures.reply ∙ ap (reply desk) call) c.loop-i.invariant
+    sofar_more c.make-desk.result desk c.perform.new.self calls c.args.replies.now c.loop-i.replies i (Step 0) c.perform.result (omega (arith, c.min-count.ensures)) (omega (arith, c.min-count.ensures)) (c.perform.ensures.after ∙ ap (played desk) call) (c.perform.ensures.reply ∙ ap (reply desk) call) c.loop-i.invariant
 
 pub returns : goal.returns
 returns g c =
@@ -27,8 +26,8 @@ returns g c =
     let m = g.M.Memory.words c.args.memory in
     let o = outlet_of g.O.Outlet c.args.outlet in
     let long = length-take-le c.min-count.result calls (omega (arith, c.min-count.ensures)) in
-    let start = desk_engine g.M.Memory g.O.Outlet c.make-desk.result in
-    let all = sofar_all start (desk_engine g.M.Memory g.O.Outlet c.loop-i.desk) calls olds c.loop-i.replies c.loop-i.i (omega (arith, c.min-count.ensures)) c.loop-i.invariant in
+    let start = c.make-desk.result in
+    let all = sofar_all start c.loop-i.desk calls olds c.loop-i.replies c.loop-i.i (omega (arith, c.min-count.ensures)) c.loop-i.invariant in
     record {
       engine = all.engine ∙ ap (λ (e : ModelEngine). plays e (playable calls olds)) c.make-desk.ensures ∙ sym (is_played s m o (playable calls olds));
       replies = all.filled ∙ ap (λ (e : ModelEngine). replies e (playable calls olds) ++ drop (length (playable calls olds)) olds) c.make-desk.ensures;
