@@ -77,7 +77,7 @@ pub fn play_bytes(
     let program = Program::read(program)?;
     let read = wire::settings::Settings::read(settings);
     let settings = Settings {
-        program,
+        program: &program,
         places: read.places(),
         lines: read.lines(),
     };

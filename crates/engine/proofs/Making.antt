@@ -12,7 +12,7 @@ pub list_all_below : (ps : List ℕ) (n : ℕ) → list_all (λ p. ltb p n) ps �
 list_all_below [] n = refl
 list_all_below (p ∷ ps) n = ap (λ b. ltb p n && b) (list_all_below ps n)
 
-below_wider : (ps : List ℕ) (m n : ℕ) → m ≤ n → all_below ps m ≡ true → all_below ps n ≡ true
+pub below_wider : (ps : List ℕ) (m n : ℕ) → m ≤ n → all_below ps m ≡ true → all_below ps n ≡ true
 below_wider [] m n h all = refl
 below_wider (p ∷ ps) m n h all =
     let b = and_parts (ltb p m) (all_below ps m) all in

@@ -8,7 +8,6 @@
 use Rattle.std.specs.Prelude.{◌≡◌, ◌<◌, ◌≤◌, Bool, true, false, List, length, take, Ok, Err, Result}
 use Rattle.memory.specs.declared.shared.Memory.{Ghosts as MemoryGhosts}
 use Rattle.outlet.specs.declared.waiting.Outlet.{Ghosts as OutletGhosts}
-use Rattle.program.specs.Programs.{instructions_of}
 use Rattle.model.specs.declared.refusal.HoldRefusal.{HoldRefusal}
 use Rattle.model.specs.declared.refusal.GiveBackRefusal.{GiveBackRefusal}
 use Rattle.model.specs.declared.call.Call.{Call}
@@ -28,7 +27,7 @@ outlet_of g o = record { waiting = g.waiting o; room = g.room o }
 -- the engine over a memory and an outlet, by what these mean
 abbrev pub engine_of : {M O : Type 0} (m : MemoryGhosts M) (o : OutletGhosts O) → Inside M O → ModelEngine
 engine_of m o e = record {
-  program = instructions_of e.program;
+  program = e.program;
   capacity = e.capacity;
   memory = m.words e.memory;
   outlet = outlet_of o e.outlet;
@@ -48,7 +47,7 @@ pub record InRange {M O : Type 0} (e : Inside M O) : Type 0 where
 
 -- what an engine is made from besides memory and outlet
 abbrev pub settings_of : Settings → ModelSettings
-settings_of s = record { program = instructions_of s.program; places = s.places.now; lines = s.lines }
+settings_of s = record { program = s.program.now; places = s.places.now; lines = s.lines }
 
 -- what a hold answers, the pass left out
 abbrev pub held_as : Result Pass HoldRefusal → Result (Unit {0}) HoldRefusal

@@ -13,19 +13,16 @@ use model::state::Token;
 use outlet::waiting::Outlet;
 
 // The cores of a new engine: none where the settings are refused.
-fn new_cores(settings: &Settings<'_>, words: usize) -> Table
-    ensures cores { cores_of result ≡ new_cores (check (settings_of settings.now) words) settings.now.places.now }
+fn new_cores(settings: Settings<'_>, words: usize) -> Table
+    ensures cores { cores_of result ≡ new_cores (check (settings_of settings.entry) words) settings.entry.places.now }
     ensures few { result.count ≤ 8 }
     ensures sized { length result.cores ≡ 8 }
-    ensures lines { 0 < result.count → settings.now.lines ≤ 32 }
+    ensures lines { 0 < result.count → settings.entry.lines ≤ 32 }
 {
     if settings.check(words).is_err() {
         return Table::empty();
     }
-    let Some(table) = Table::new(settings.places) else {
-        unreachable();
-    };
-    table
+    Table::new(settings.places).unwrap()
 }
 
 impl<M: Memory, O: Outlet> Engine<M, O> {
@@ -33,11 +30,10 @@ impl<M: Memory, O: Outlet> Engine<M, O> {
     pub fn make(settings: Settings<'_>, memory: M, outlet: O) -> Engine<M, O>
         ensures { result ≡ make (settings_of settings.entry) (M.Memory.words memory) (outlet_of O.Outlet outlet) }
     {
-        let table = new_cores(&settings, memory.len());
-        let Settings { program, lines, .. } = settings;
+        let table = new_cores(settings, memory.len());
         Engine {
-            program,
-            capacity: lines,
+            program: *settings.program,
+            capacity: settings.lines,
             memory,
             outlet,
             table,

@@ -18,10 +18,7 @@ fn number(i: usize) -> CoreNumber
     requires { i < 8 }
     ensures { result.value ≡ i }
 {
-    match CoreNumber::new(i as u32) {
-        Some(number) => number,
-        None => unreachable(),
-    }
+    CoreNumber::new(i as u32).unwrap()
 }
 
 impl<M: Memory, O: Outlet> Engine<M, O> {
@@ -55,8 +52,8 @@ impl<M: Memory, O: Outlet> Engine<M, O> {
         requires { i < length self.old.cores }
         ensures { Moved self.old self.new i result (outcome (scene_view self.old.program scene) (core_at self.old i)) }
     {
-        let program = &self.program;
-        self.table.cores[i].step(program, scene)
+        let table = &mut self.table;
+        table.cores[i].step(&self.program, scene)
     }
 
     // The rest of the engine takes what a core's move came to.

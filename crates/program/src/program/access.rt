@@ -1,5 +1,5 @@
 // Looking at an accepted program.
-ghost use Rattle.std.specs.Prelude.{◌≡◌, ◌<◌, true, false, length, slice_index_or};
+ghost use Rattle.std.specs.Prelude.{◌≡◌, ◌<◌, ◌≤◌, true, false, length, slice_index_or};
 ghost use Rattle.formats.specs.declared.instruction.Instruction.TheVariants.{Halt};
 ghost use Rattle.program.specs.Accepted.{Accepted, target_inside, ends};
 ghost use Rattle.program.specs.Programs.{instruction_in};
@@ -18,7 +18,8 @@ impl Program {
 
     // How many instructions it has, 1 to 512.
     pub fn len(&self) -> usize
-        ensures { result ≡ length self.now }
+        ensures value { result ≡ length self.now }
+        ensures few { result ≤ 512 }
     {
         self.as_slice().len()
     }

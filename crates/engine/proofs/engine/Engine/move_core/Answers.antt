@@ -17,7 +17,7 @@ returns g c =
     let same = ap (λ (x : ModelEngine). length x.cores) c.self.view_is in
     let inside : i < s.table.count = omega (arith, same, long, c.requires) in
     let view = scene_view e.program c.args.scene in
-    let here : core_at e i ≡ core_of (get_or cores i c.index-self-i.result) = core_here cores s.table.count i c.index-self-i.result inside few in
+    let here : core_at e i ≡ core_of (get_or cores i c.index-table-i.result) = core_here cores s.table.count i c.index-table-i.result inside few in
     let all : outcome_of c.step.new.self c.step.result ≡ outcome view (core_at e i) = c.step.ensures ∙ ap (outcome view) (sym here) in
     rw (← c.self.view_is)
     (record {

@@ -1,0 +1,10 @@
+use Rattle.std.proofs.Common.{leb, length, sym, arith}
+use Rattle.std.proofs.lemmas.Bool.{and_from, le-leb}
+use Rattle.model.specs.Engine.{all_below}
+use Rattle.engine.proofs.Making.{below_wider}
+use Rattle.engine.proofs.settings.Settings.check.Goals as goal
+
+pub returns-clause-placeable : goal.returns-clause-placeable
+returns-clause-placeable c = λ _.
+    let ps = c.args.self.now.places.now in
+    and_from (leb (length ps) 8) (all_below ps 512) (le-leb (length ps) 8 (omega arith)) (below_wider ps c.len.result 512 c.len.ensures.few (sym c.if-not-all_below.ensures))
