@@ -1,6 +1,6 @@
 -- Telling the other cores of a write, one core after the other.
 -- Assumes nothing.
-use Rattle.std.proofs.Common.{◌≡◌, ℕ, zero, suc, ◌+◌, ◌<◌, ◌≤◌, true, false, ltb, leb, List, [], ◌∷◌, ◌++◌, map, length, get_or, take, drop, set, sym, refl, ap, ◌∙◌, append_assoc, append-nil, le_of_suc-le-suc, arith, length-set, length-take-le, take_all, le-ltb, lt-ltb, le-leb}
+use Rattle.std.proofs.Common.{◌≡◌, ℕ, zero, suc, ◌+◌, ◌<◌, ◌≤◌, true, false, ltb, leb, List, [], ◌∷◌, ◌++◌, map, length, get_or, take, drop, set, sym, refl, ap, ◌∙◌, append_assoc, append-nil, le_of_suc-le-suc, arith, length-set, length-take-le, take_all, le-ltb, lt-ltb}
 use lib.Seq.{map-set, set_at, get_or_at}
 use Rattle.std.proofs.lemmas.List.{length-map, take_more, take_more_set, drop_more, drop_all, get_or-map, map_push, take-map}
 use Rattle.std.proofs.lemmas.Bool.{and_from, and_parts, and_left, and_right}
@@ -8,7 +8,7 @@ use Rattle.model.specs.Cores.{Core as ModelCore}
 use Rattle.model.specs.Engine.{blank, all_below, new_core}
 use Rattle.cores.specs.declared.unit.Core.{Core}
 use Rattle.cores.specs.Units.{core_of}
-use Rattle.bank.specs.Tables.{placeable, NewTable, hit_at, others_hit}
+use Rattle.bank.specs.Tables.{placeable, hit_at, others_hit}
 
 -- as many cores as before
 hit_length : (w a : ℕ) (cs : List ModelCore) → length (others_hit w a cs) ≡ length cs
@@ -91,10 +91,6 @@ pub record Filled (cores : List Core) (places : List ℕ) (i : ℕ) : Type 0 whe
   pub made : map core_of (take i cores) ≡ map new_core (take i places)
   pub below : all_below (take i places) 512 ≡ true
 
--- none yet
-pub filled_none : (cores : List Core) (places : List ℕ) → length cores ≡ 8 → Filled cores places 0
-filled_none cores places h = record { sized = h; made = refl; below = refl }
-
 -- one more
 pub filled_more : (cores : List Core) (places : List ℕ) (i : ℕ) (c : Core) → length places ≤ 8 → i < length places → get_or places i 0 ≤ 511 → core_of c ≡ new_core (get_or places i 0) → Filled cores places i → Filled (set cores i c) places (i + 1)
 filled_more cores places i c few h low is f =
@@ -104,15 +100,6 @@ filled_more cores places i c few h low is f =
       made = ap (map core_of) (take_more_set cores i c (omega (arith, f.sized))) ∙ map_push core_of (take i cores) c ∙ ap (λ l. l ++ (core_of c ∷ [])) f.made ∙ ap (λ x. map new_core (take i places) ++ (x ∷ [])) is ∙ sym (map_push new_core (take i places) (get_or places i 0)) ∙ ap (map new_core) (sym more);
       below = ap (λ l. all_below l 512) more ∙ below_push (take i places) (get_or places i 0) 512 f.below (omega arith);
     }
-
--- all of them
-pub filled_all : (cores : List Core) (places : List ℕ) (i : ℕ) → length places ≤ 8 → length places ≤ i → i ≤ length places → Filled cores places i → (placeable places ≡ true) × NewTable (record { cores = cores; count = length places }) places
-filled_all cores places i few past upto f =
-    let at : i ≡ length places = omega arith in
-    let all = take_all i places past in (
-      and_from (leb (length places) 8) (all_below places 512) (le-leb (length places) 8 few) (ap (λ l. all_below l 512) (sym all) ∙ f.below),
-      record { count = refl; cores = ap (λ n. map core_of (take n cores)) (sym at) ∙ f.made ∙ ap (map new_core) all; sized = f.sized },
-    )
 
 -- a place above 511
 pub not_placeable_high : (places : List ℕ) (i : ℕ) → i < length places → 511 < get_or places i 0 → placeable places ≡ false

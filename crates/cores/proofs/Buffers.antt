@@ -1,18 +1,25 @@
 -- What a line that was found tells of the lines, and lines that stay at different addresses.
 -- Assumes nothing.
-use Rattle.std.proofs.Common.{◌≡◌, ℕ, zero, suc, ◌+◌, ◌<◌, Bool, true, false, cond, not, ltb, eqb, ◌&&◌, List, [], ◌∷◌, ◌++◌, length, take, set, Some, None, Option, sym, refl, ap, ◌∙◌, subst, inl, inr, arith, lt-ltb, le-ltb, length-set}
+use Rattle.std.proofs.Common.{◌≡◌, ℕ, zero, suc, ◌+◌, ◌<◌, Bool, true, false, cond, ltb, eqb, ◌&&◌, List, [], ◌∷◌, ◌++◌, length, get_or, take, set, Some, None, Option, sym, refl, ap, ◌∙◌, subst, inl, inr, arith, lt-ltb, le-ltb, length-set}
 use Rattle.std.specs.List.{position, position_or_len, find, list_any, count_by}
 use Rattle.std.specs.Option.{option_map}
-use Rattle.std.proofs.lemmas.Bool.{cases_Bool, cond-false, ltb-true, ltb-false, and_parts, and_from, or_parts, not-true, not_from_false}
+use Rattle.std.proofs.lemmas.Bool.{cases_Bool, cond-false, ltb-true, ltb-false, or_parts}
 use Rattle.std.proofs.lemmas.List.{get_or-take, length-take-le, take_more_set}
 use Rattle.std.proofs.lemmas.List.Recursion.{is_count_by}
 use Rattle.std.proofs.lemmas.Bool.Decides.{nat_tests}
 use Rattle.model.specs.declared.place.Line.{Line}
 use Rattle.model.specs.declared.effect.Effect.TheVariants.{Nothing, Wrote}
-use Rattle.model.specs.Lines.{holds, value_at, tagged, restored, store_at, any_dirty, cleaned, wrote, left}
+use Rattle.model.specs.Lines.{holds, value_at, tagged, restored, store_at, any_dirty, cleaned, wrote, left, Distinct}
 use Rattle.model.specs.Calls.{tag_count}
-use Rattle.cores.specs.Distinct.{distinct, Fits}
-use Rattle.cores.specs.Buffers.{index_of, dirty_index, no_line, line_at}
+use Rattle.cores.specs.Buffers.{Fits, index_of, dirty_index}
+
+-- what stands for a line past the end
+abbrev pub no_line : Line
+no_line = record { address = 0; value = 0; tag = false; dirty = false }
+
+-- the line at a place of the list
+abbrev pub line_at : List Line → ℕ → Line
+line_at ls i = get_or ls i no_line
 
 -- the model's words in the library's
 pub any_dirty_any : (ls : List Line) → list_any (λ l. l.dirty) ls ≡ any_dirty ls
@@ -144,12 +151,10 @@ holds_set [] i k a h = refl
 holds_set (l ∷ ls) zero k a h = rw h
 holds_set (l ∷ ls) (suc i) k a h = rw (holds_set ls i k a h)
 
-pub distinct_set : (ls : List Line) (i : ℕ) (k : Line) → k.address ≡ (line_at ls i).address → distinct ls ≡ true → distinct (set ls i k) ≡ true
-distinct_set [] i k h d = refl
-distinct_set (l ∷ ls) zero k h d = rw h d
-distinct_set (l ∷ ls) (suc i) k h d =
-    let apart = and_parts (not (holds ls l.address)) (distinct ls) d in
-    and_from _ _ (ap not (holds_set ls i k l.address h) ∙ apart.0) (distinct_set ls i k h apart.1)
+distinct_set : (ls : List Line) (i : ℕ) (k : Line) → k.address ≡ (line_at ls i).address → Distinct ls → Distinct (set ls i k)
+distinct_set [] i k h d = d
+distinct_set (l ∷ ls) zero k h d = (ap (holds ls) h ∙ d.0, d.1)
+distinct_set (l ∷ ls) (suc i) k h d = (holds_set ls i k l.address h ∙ d.0, distinct_set ls i k h d.1)
 
 -- one more line, at an address that has none
 holds_push : (ls : List Line) (k : Line) (a : ℕ) → holds ls a ≡ false → eqb k.address a ≡ false → holds (ls ++ k ∷ []) a ≡ false
@@ -159,17 +164,13 @@ holds_push (l ∷ ls) k a h n = let p = or_parts (eqb l.address a) (holds ls a) 
 eqb_swap : (a b : ℕ) → eqb a b ≡ false → eqb b a ≡ false
 eqb_swap a b h = grind (arith, nat_tests)
 
-pub distinct_push : (ls : List Line) (k : Line) → holds ls k.address ≡ false → distinct ls ≡ true → distinct (ls ++ k ∷ []) ≡ true
-distinct_push [] k h d = refl
+distinct_push : (ls : List Line) (k : Line) → holds ls k.address ≡ false → Distinct ls → Distinct (ls ++ k ∷ [])
+distinct_push [] k h d = (refl, tt)
 distinct_push (l ∷ ls) k h d =
-    let apart = and_parts (not (holds ls l.address)) (distinct ls) d in
-    let p = or_parts (eqb l.address k.address) (holds ls k.address) h in
-    and_from _ _
-    (not_from_false _ (holds_push ls k l.address (not-true _ apart.0) (eqb_swap l.address k.address p.0)))
-    (distinct_push ls k p.1 apart.1)
+    let p = or_parts (eqb l.address k.address) (holds ls k.address) h in (holds_push ls k l.address d.0 (eqb_swap l.address k.address p.0), distinct_push ls k p.1 d.1)
 
 -- a change in the front of a longer list
-pub take_set_front : {X : Type 0} (n : ℕ) (xs : List X) (i : ℕ) (x : X) → take n (set xs i x) ≡ set (take n xs) i x
+take_set_front : {X : Type 0} (n : ℕ) (xs : List X) (i : ℕ) (x : X) → take n (set xs i x) ≡ set (take n xs) i x
 take_set_front zero xs i x = refl
 take_set_front (suc n) [] i x = refl
 take_set_front (suc n) (y ∷ xs) zero x = refl
@@ -193,7 +194,7 @@ module _ (lines : List Line) (used : ℕ) (ls : List Line) (fits : Fits lines us
   changed_fits f i h same = record {
     few = fits.few;
     sized = length-set lines i (f (line_at lines i)) ∙ fits.sized;
-    apart = ap distinct (changed f i h) ∙ distinct_set ls i _ (same _) (ap distinct (sym seen) ∙ fits.apart);
+    apart = subst Distinct (sym (changed f i h)) (distinct_set ls i _ (same _) (subst Distinct seen fits.apart));
   }
 
   -- one line more
@@ -204,5 +205,5 @@ module _ (lines : List Line) (used : ℕ) (ls : List Line) (fits : Fits lines us
   pushed_fits k h n = record {
     few = omega (arith, front_length);
     sized = length-set lines used k ∙ fits.sized;
-    apart = ap distinct (pushed k h) ∙ distinct_push ls k n (ap distinct (sym seen) ∙ fits.apart);
+    apart = subst Distinct (sym (pushed k h)) (distinct_push ls k n (subst Distinct seen fits.apart));
   }

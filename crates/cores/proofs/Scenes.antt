@@ -6,7 +6,6 @@ use Rattle.std.proofs.lemmas.Bool.{cases_Bool, ltb-true}
 use Rattle.model.specs.declared.place.Place.{Place}
 use Rattle.model.specs.declared.state.State.{State}
 use Rattle.model.specs.declared.state.State.TheVariants.{Bypass, Transaction, Commit, Abort, EarlyFlush, EarlyCommit, Stopped}
-use Rattle.model.specs.declared.state.Token.{Token}
 use Rattle.model.specs.Instructions.{Ask, Moves, Loads, Stores, Sends, Begins, Ends, Halts, Retries, Earlies, asks, closing}
 use Rattle.model.specs.Instructions.{Outer, OuterFaults, OuterMoves, OuterLoads, OuterStores, OuterSends, Opens, Stops, outer, outer_at}
 use Rattle.model.specs.Instructions.{Inner, InnerFaults, InnerMoves, InnerLoads, InnerStores, InnerSends, Closes, Restarts, TakesToken, inner, inner_at}
@@ -127,8 +126,3 @@ module _ (v : View) (c : Core) where
   -- a step comes to the same over the one word that it looks at
   pub outcome_over : outcome v c ≡ outcome (over_word v (get_or v.memory (load_address v.program c.place) 0)) c
   outcome_over = by_state c.state
-
-  -- and so over a scene that agrees with the view: the right side is what `scene_view` makes of it
-  pub outcome_seen : {capacity words word room : ℕ} {token : Token} {self : ℕ} → v.capacity ≡ capacity → length v.memory ≡ words → get_or v.memory (load_address v.program c.place) 0 ≡ word → v.room ≡ room → v.token ≡ token → v.self ≡ self → outcome v c ≡ outcome (record { program = v.program; capacity = capacity; memory = replicate words word; room = room; token = token; self = self }) c
-  outcome_seen capacity words word room token self =
-      outcome_over ∙ λ i. outcome (record { program = v.program; capacity = capacity i; memory = replicate (words i) (word i); room = room i; token = token i; self = self i }) c

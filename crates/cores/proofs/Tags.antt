@@ -1,16 +1,14 @@
 -- Copying the tagged addresses of lines, one line more.
 -- Assumes nothing.
-use Rattle.std.proofs.Common.{◌≡◌, ℕ, zero, suc, ◌+◌, ◌<◌, ◌≤◌, true, false, cond, not, eqb, List, [], ◌∷◌, ◌++◌, length, take, drop, set, Ok, Err, sym, refl, ap, ◌∙◌, inl, inr, arith, length-set, take_all}
+use Rattle.std.proofs.Common.{◌≡◌, ℕ, zero, suc, ◌+◌, ◌<◌, ◌≤◌, true, false, cond, eqb, List, [], ◌∷◌, ◌++◌, length, take, drop, set, Ok, sym, refl, ap, ◌∙◌, inl, inr, arith, length-set, take_all}
 use Rattle.std.proofs.lemmas.List.{take_more, take_more_set, drop-set-lt, drop-drop}
-use Rattle.std.proofs.lemmas.Bool.{cases_Bool, eqb-true, and_parts, not-true, le-leb, lt-leb}
+use Rattle.std.proofs.lemmas.Bool.{cases_Bool, eqb-true, le-leb}
 use Rattle.model.specs.declared.place.Line.{Line}
-use Rattle.model.specs.declared.refusal.TagsRefusal.TheVariants.{TooShort}
-use Rattle.model.specs.Lines.{holds, tagged}
+use Rattle.model.specs.Lines.{holds, tagged, tags, Distinct}
 use Rattle.model.specs.Calls.{tag_count, times}
-use Rattle.cores.specs.Distinct.{distinct}
-use Rattle.cores.specs.Buffers.{no_line, line_at, tags_of}
 use Rattle.cores.specs.Tags.{LineTags}
 use Rattle.model.proofs.Lines.{untagged}
+use Rattle.cores.proofs.Buffers.{no_line, line_at}
 
 -- one line more
 pub count_push : (ls : List Line) (l : Line) → tag_count (ls ++ l ∷ []) ≡ cond l.tag (tag_count ls + 1) (tag_count ls)
@@ -22,7 +20,7 @@ count_push (k ∷ ls) l =
       | inr t ↦ rw t ih
     ]
 
-pub tags_push : (ls : List Line) (l : Line) → tags_of (ls ++ l ∷ []) ≡ cond l.tag (tags_of ls ++ l.address ∷ []) (tags_of ls)
+pub tags_push : (ls : List Line) (l : Line) → tags (ls ++ l ∷ []) ≡ cond l.tag (tags ls ++ l.address ∷ []) (tags ls)
 tags_push [] l = refl
 tags_push (k ∷ ls) l =
     let ih = tags_push ls l in
@@ -45,8 +43,8 @@ module _ (lines : List Line) (i : ℕ) (h : i < length lines) where
   pub count_next : tag_count (take (i + 1) lines) ≡ cond (line_at lines i).tag (tag_count (take i lines) + 1) (tag_count (take i lines))
   count_next = ap tag_count (take_more lines i no_line h) ∙ count_push (take i lines) (line_at lines i)
 
-  pub tags_next : tags_of (take (i + 1) lines) ≡ cond (line_at lines i).tag (tags_of (take i lines) ++ (line_at lines i).address ∷ []) (tags_of (take i lines))
-  tags_next = ap tags_of (take_more lines i no_line h) ∙ tags_push (take i lines) (line_at lines i)
+  pub tags_next : tags (take (i + 1) lines) ≡ cond (line_at lines i).tag (tags (take i lines) ++ (line_at lines i).address ∷ []) (tags (take i lines))
+  tags_next = ap tags (take_more lines i no_line h) ∙ tags_push (take i lines) (line_at lines i)
 
 -- there are no more tags than lines
 pub count_few : (ls : List Line) (i : ℕ) → tag_count (take i ls) ≤ i
@@ -60,11 +58,8 @@ count_few (l ∷ ls) (suc i) =
 pub record Copied (lines : List Line) (i : ℕ) (before after : List ℕ) (number : ℕ) : Type 0 where
   pub counted : number ≡ tag_count (take i lines)
   pub size : length after ≡ length before
-  pub front : take number after ≡ tags_of (take i lines)
+  pub front : take number after ≡ tags (take i lines)
   pub rest : drop number after ≡ drop number before
-
-pub copied_none : (lines : List Line) (before : List ℕ) → Copied lines 0 before before 0
-copied_none lines before = record { counted = refl; size = refl; front = refl; rest = refl }
 
 module _ (lines : List Line) (i : ℕ) (before after : List ℕ) (number : ℕ) (sofar : Copied lines i before after number) (h : i < length lines) where
   -- a tagged line more
@@ -72,11 +67,11 @@ module _ (lines : List Line) (i : ℕ) (before after : List ℕ) (number : ℕ) 
   copied_tagged t lt =
       let a = (line_at lines i).address in
       let count = rw t at (count_next lines i h) in
-      let tags = rw t at (tags_next lines i h) in
+      let listed = rw t at (tags_next lines i h) in
       record {
         counted = ap (λ n. n + 1) sofar.counted ∙ sym count;
         size = length-set after number a ∙ sofar.size;
-        front = take_more_set after number a lt ∙ ap (λ xs. xs ++ a ∷ []) sofar.front ∙ sym tags;
+        front = take_more_set after number a lt ∙ ap (λ xs. xs ++ a ∷ []) sofar.front ∙ sym listed;
         rest = drop-set-lt (number + 1) after number a (omega arith) ∙ sym (drop-drop 1 number after) ∙ ap (drop 1) sofar.rest ∙ drop-drop 1 number before;
       }
 
@@ -84,8 +79,8 @@ module _ (lines : List Line) (i : ℕ) (before after : List ℕ) (number : ℕ) 
   pub copied_plain : (line_at lines i).tag ≡ false → Copied lines (i + 1) before after number
   copied_plain t =
       let count = rw t at (count_next lines i h) in
-      let tags = rw t at (tags_next lines i h) in
-      record { counted = sofar.counted ∙ sym count; size = sofar.size; front = sofar.front ∙ sym tags; rest = sofar.rest }
+      let listed = rw t at (tags_next lines i h) in
+      record { counted = sofar.counted ∙ sym count; size = sofar.size; front = sofar.front ∙ sym listed; rest = sofar.rest }
 
   -- a tagged line finds a place in a list that has one for each
   pub place_left : (line_at lines i).tag ≡ true → tag_count lines ≤ length before → number < length after
@@ -96,26 +91,21 @@ module _ (lines : List Line) (i : ℕ) (before after : List ℕ) (number : ℕ) 
       omega (arith, sofar.counted, sofar.size, count, more, whole)
 
 -- each tagged address stands once, since no other line is there
-pub each_once : (ls : List Line) (a : ℕ) → distinct ls ≡ true → times a (tags_of ls) ≡ cond (tagged ls a) 1 0
+pub each_once : (ls : List Line) (a : ℕ) → Distinct ls → times a (tags ls) ≡ cond (tagged ls a) 1 0
 each_once [] a d = refl
 each_once (l ∷ ls) a d =
-    let apart = and_parts (not (holds ls l.address)) (distinct ls) d in
-    let ih = each_once ls a apart.1 in
+    let ih = each_once ls a d.1 in
     elim (cases_Bool (eqb l.address a)) [
       | inl e ↦
-          let none : holds ls a ≡ false = ap (holds ls) (sym (eqb-true l.address a e)) ∙ not-true _ apart.0 in
+          let none : holds ls a ≡ false = ap (holds ls) (sym (eqb-true l.address a e)) ∙ d.0 in
           let gone = rw (untagged ls a none) at ih in
           elim (cases_Bool l.tag) [ inl t ↦ rw (t, e) (ap suc gone) | inr t ↦ rw (e, t) ih ]
       | inr e ↦ elim (cases_Bool l.tag) [ inl t ↦ rw (t, e) ih | inr t ↦ rw (e, t) ih ]
     ]
 
 -- all lines are copied
-pub copied_all : (ls : List Line) (before after : List ℕ) (number : ℕ) → Copied ls (length ls) before after number → distinct ls ≡ true → tag_count ls ≤ length before → LineTags ls before after (Ok number)
+pub copied_all : (ls : List Line) (before after : List ℕ) (number : ℕ) → Copied ls (length ls) before after number → Distinct ls → tag_count ls ≤ length before → LineTags ls before after (Ok number)
 copied_all ls before after number all d enough =
     let whole = take_all (length ls) ls (omega arith) in
     rw (le-leb (tag_count ls) (length before) enough)
-    (number, refl, record { counted = all.counted ∙ ap tag_count whole; size = all.size; each = λ a. ap (times a) (all.front ∙ ap tags_of whole) ∙ each_once ls a d; rest = all.rest })
-
--- the list is too short
-pub too_short : (ls : List Line) (before : List ℕ) → length before < tag_count ls → LineTags ls before before (Err TooShort)
-too_short ls before h = rw (lt-leb (tag_count ls) (length before) h) (refl, refl)
+    (number, refl, record { counted = all.counted ∙ ap tag_count whole; size = all.size; each = λ a. ap (times a) (all.front ∙ ap tags whole) ∙ each_once ls a d; rest = all.rest })

@@ -17,7 +17,7 @@ pub struct Buffer {
 impl Model for Buffer {
     ghost use Rattle.std.specs.Prelude.{List, take};
     ghost use Rattle.model.specs.declared.place.Line.{Line};
-    ghost use Rattle.cores.specs.Distinct.{Fits};
+    ghost use Rattle.cores.specs.Buffers.{Fits};
 
     ghost Value = { List Line };
 

@@ -1,8 +1,7 @@
 // Looking up the lines of a write buffer.
-ghost use Rattle.std.specs.Prelude.{◌≡◌, ◌≤◌, true, [], if◌then◌else◌, length};
-ghost use Rattle.model.specs.Lines.{holds, value_at, tagged, any_dirty};
+ghost use Rattle.std.specs.Prelude.{◌≡◌, ◌≤◌, [], if◌then◌else◌, length};
+ghost use Rattle.model.specs.Lines.{holds, value_at, tagged, any_dirty, Distinct};
 ghost use Rattle.cores.specs.Buffers.{index_of, dirty_index};
-ghost use Rattle.cores.specs.Distinct.{distinct};
 
 use super::Buffer;
 use model::place::Line;
@@ -28,7 +27,7 @@ impl Buffer {
     pub(super) fn lines(&self) -> &[Line]
         ensures value { result.now ≡ self.now }
         ensures few { length self.now ≤ 32 }
-        ensures apart { distinct self.now ≡ true }
+        ensures apart { Distinct self.now }
     {
         &self.lines[..self.used]
     }

@@ -1,12 +1,9 @@
 use Rattle.std.proofs.Common.{◌≡◌, ℕ, ◌<◌, List, length, subst, ap, arith}
 use Rattle.model.specs.declared.place.Line.{Line}
 use Rattle.model.specs.Calls.{tag_count}
-use Rattle.cores.proofs.Tags.{Copied, copied_none, copied_tagged, copied_plain, copied_all, place_left, count_few}
+use Rattle.cores.proofs.Tags.{Copied, copied_tagged, copied_plain, copied_all, place_left, count_few}
 use Rattle.cores.proofs.buffer.Buffer.tags.Goals as goal
 use Rattle.cores.proofs.buffer.Buffer.tags.Goals.{Then-line, then-line, else-line}
-
-pub loop-line-init : goal.loop-line-init
-loop-line-init c = copied_none _ c.args.list.now
 
 -- a tagged line finds a place
 pub bounds-list-number : goal.bounds-list-number
