@@ -116,11 +116,6 @@ pub told_in_use : (w a n : ℕ) (olds news : List Core) → map core_of news ≡
 told_in_use w a n olds news all =
     sym (take-map core_of n news) ∙ ap (take n) all ∙ hit_take w a n (map core_of olds) ∙ ap (others_hit w a) (take-map core_of n olds)
 
--- as many cores as before
-pub told_length : (w a : ℕ) (olds news : List Core) → map core_of news ≡ others_hit w a (map core_of olds) → length news ≡ length olds
-told_length w a olds news all =
-    sym (length-map news core_of) ∙ ap length all ∙ hit_length w a (map core_of olds) ∙ length-map olds core_of
-
 -- telling the others after the writer has moved, or before it
 pub told_after : (w a : ℕ) (cs : List ModelCore) (c : ModelCore) → others_hit w a (set cs w c) ≡ set (map (hit_at a) cs) w c
 told_after w a [] c = refl
