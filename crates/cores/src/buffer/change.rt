@@ -25,11 +25,9 @@ impl Buffer {
         let Some(index) = self.find(address) else {
             return false;
         };
-        self.lines[index] = Line {
-            value,
-            dirty: true,
-            ..self.lines[index]
-        };
+        let line = &mut self.lines[index];
+        line.value = value;
+        line.dirty = true;
         true
     }
 
@@ -41,11 +39,8 @@ impl Buffer {
         let Some(index) = self.first_dirty() else {
             return Effect::Nothing;
         };
-        let line = self.lines[index];
-        self.lines[index] = Line {
-            dirty: false,
-            ..line
-        };
+        let line = &mut self.lines[index];
+        line.dirty = false;
         Effect::Wrote {
             address: line.address,
             word: line.value,
