@@ -1,2 +1,3 @@
-pub mod Stretches
+pub mod Digits
+pub mod Pairs
 pub mod Tokens

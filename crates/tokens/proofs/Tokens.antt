@@ -1,12 +1,11 @@
--- The next token of a text, and the digits of a number.
+-- The next token of a text.
 -- Assumes nothing.
-use Rattle.std.proofs.Common.{◌≡◌, ℕ, ◌+◌, ◌-◌, ◌<◌, Bool, true, false, not, eqb, List, [], ◌∷◌, length, get_or, take, drop, Some, None, sym, ap, ◌∙◌, inl, inr, one-add, arith, length-drop, false-eqb}
+use Rattle.std.proofs.Common.{◌≡◌, ℕ, ◌+◌, ◌-◌, ◌<◌, Bool, true, false, not, eqb, List, [], ◌∷◌, length, take, drop, Some, None, sym, ap, ◌∙◌, inl, inr, one-add, arith, length-drop, false-eqb}
 use Rattle.std.proofs.lemmas.List.{take_rest}
 use Rattle.std.specs.List.{prefix_len}
 use Rattle.std.proofs.lemmas.Bool.{cases_Bool}
-use Rattle.tokens.specs.declared.stretch.Class.TheVariants.{Blank, Solid, Hexadecimal}
+use Rattle.tokens.specs.declared.stretch.Class.TheVariants.{Blank, Solid}
 use Rattle.tokens.specs.Lines.{in_class, from_token, next_token}
-use Rattle.tokens.specs.Numbers.{read_digits, read_number}
 
 -- what is left of a text after its blanks
 pub left : (text : List ℕ) (n : ℕ) → n ≡ prefix_len (in_class Blank) text → take (length text - n) (drop n text) ≡ from_token text
@@ -38,7 +37,3 @@ shorter text n m k is some len back =
     let more : 0 < length (from_token text) = omega (arith, false-eqb _ 0 some) in
     let token : m ≡ prefix_len (in_class Solid) (from_token text) = len ∙ ap (prefix_len (in_class Solid)) e in
     omega (arith, begins (in_class Blank) text more, length-drop (prefix_len (in_class Blank) text) text)
-
--- the digits after 0x
-pub prefixed : (token : List ℕ) → get_or token 0 0 ≡ 48 → get_or token 1 0 ≡ 120 → read_digits (in_class Hexadecimal) 16 (drop 2 token) ≡ read_number token
-prefixed token a b = rw (a, b)

@@ -1,11 +1,10 @@
 -- A line as text without its remark, and a text as tokens.
 -- Assumes nothing.
-use Rattle.std.specs.Prelude.{ℕ, Bool, cond, not, ◌||◌, List, length, take, drop, Some, None, Option, ◌==◌, nat_lt}
+use Rattle.std.specs.Prelude.{ℕ, Bool, cond, not, ◌||◌, List, length, take, drop, Some, None, Option, ◌==◌}
 use Rattle.std.specs.Borrow.{Bor}
-use Rattle.std.specs.Char.{digit_value}
 use Rattle.std.specs.List.{prefix_len}
 use Rattle.tokens.specs.declared.stretch.Class.{Class}
-use Rattle.tokens.specs.declared.stretch.Class.TheVariants.{Plain, Blank, Solid, Decimal, Hexadecimal}
+use Rattle.tokens.specs.declared.stretch.Class.TheVariants.{Plain, Blank, Solid}
 
 -- space, tab and carriage return
 abbrev pub is_blank : ℕ → Bool
@@ -16,8 +15,6 @@ abbrev pub in_class : Class → ℕ → Bool
 in_class Plain b = not (b == 35)
 in_class Blank b = is_blank b
 in_class Solid b = not (is_blank b)
-in_class Decimal b = nat_lt (digit_value b) 10
-in_class Hexadecimal b = nat_lt (digit_value b) 16
 
 -- the line up to its first '#'
 abbrev pub before_remark : List ℕ → List ℕ

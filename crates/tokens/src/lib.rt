@@ -2,7 +2,6 @@
 #![tactic(auto)]
 
 pub mod bytes;
-mod digit;
 pub mod line;
 pub mod number;
 mod stretch;

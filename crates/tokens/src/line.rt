@@ -9,7 +9,7 @@ use crate::stretch::Class;
 pub fn without_remark(line: &[u8]) -> &[u8]
     ensures { result.now ≡ before_remark line.now }
 {
-    &line[0..Class::Plain.leading(line)]
+    &line[..Class::Plain.leading(line)]
 }
 
 // The first token of a text, and the text after it. None where the text is blank.

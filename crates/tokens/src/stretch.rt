@@ -3,8 +3,6 @@ ghost use Rattle.std.specs.Prelude.{◌≡◌, ◌≤◌, length};
 ghost use Rattle.std.specs.List.{prefix_len};
 ghost use Rattle.tokens.specs.Lines.{in_class};
 
-use crate::digit::digit_value;
-
 // A class of bytes.
 #[derive(Clone, Copy)]
 pub enum Class {
@@ -14,10 +12,6 @@ pub enum Class {
     Blank,
     // any byte that is not blank
     Solid,
-    // a decimal digit
-    Decimal,
-    // a hexadecimal digit, a capital or not
-    Hexadecimal,
 }
 
 impl Class {
@@ -28,8 +22,6 @@ impl Class {
             Class::Plain => byte != b'#',
             Class::Blank => is_blank(byte),
             Class::Solid => !is_blank(byte),
-            Class::Decimal => digit_value(byte) < 10,
-            Class::Hexadecimal => digit_value(byte) < 16,
         }
     }
 
@@ -38,17 +30,12 @@ impl Class {
         ensures value { result ≡ prefix_len (in_class self) bytes.now }
         ensures within { result ≤ length bytes.now }
     {
-        for (i, b) in bytes.iter().enumerate() {
-            if !self.has(*b) {
-                return i;
-            }
-        }
-        bytes.len()
+        bytes.iter().take_while(|b| self.has(**b)).count()
     }
 }
 
 fn is_blank(byte: u8) -> bool
     ensures { result ≡ in_class Class.Blank byte }
 {
-    byte == b' ' || byte == b'\t' || byte == b'\r'
+    matches!(byte, b' ' | b'\t' | b'\r')
 }

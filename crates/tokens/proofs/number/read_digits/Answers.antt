@@ -1,0 +1,48 @@
+use Rattle.std.proofs.Common.{◌≡◌, ◌<◌, ◌+◌, ◌*◌, true, false, Err, ◌≤◌, min, get_or, take, sym, ap, ◌∙◌, arith, rules, take_all}
+use Rattle.std.specs.Str.Parse.{digits_value}
+use Rattle.std.specs.Char.{digit_value, is_digit}
+use Rattle.std.proofs.lemmas.Int.Digits.{digits_value_more}
+use Rattle.std.proofs.lemmas.Bool.Decides.{nat_tests}
+use Rattle.std.proofs.lemmas.List.Sums.{prefix_len-drop_yes, prefix_len-drop_no, prefix_len-drop_all}
+use Rattle.tokens.specs.declared.number.NumberFault.TheVariants.{NoNumber}
+use Rattle.tokens.proofs.Digits.{capped_more, no_digits, all_digits}
+use Rattle.tokens.proofs.number.read_digits.Goals as goal
+
+pub loop-b-preserved : goal.loop-b-preserved
+loop-b-preserved c =
+    let base = c.args.base in
+    let ds = c.args.digits.now in
+    let i = c.loop-b.b-index in
+    let is : c.in_ok-digit.digit ≡ digit_value (get_or ds i 0) = search rules in
+    let within : digit_value (get_or ds i 0) < base = search rules in
+    let passes : is_digit (get_or ds i 0) base ≡ true = grind (arith, nat_tests) in
+    let stretch = prefix_len-drop_yes (λ b. is_digit b base) ds i 0 c.loop-b-test.true passes in
+    let more = digits_value_more base ds i c.loop-b-test.true in
+    record {
+      digits = omega (arith, c.loop-b.invariant.digits);
+      value =
+          c.min-value.ensures
+          ∙ (λ k. min (c.loop-b.invariant.value k * c.from-in-loop-b.ensures k + (c.from-in-loop-b-2.ensures ∙ is) k) 4294967296)
+          ∙ capped_more base (digits_value base (take i ds)) (digit_value (get_or ds i 0)) 4294967296 (omega arith)
+          ∙ ap (λ n. min n 4294967296) (sym more);
+    }
+
+pub returns-in_err-digit : goal.returns-in_err-digit
+returns-in_err-digit c =
+    let base = c.args.base in
+    let ds = c.args.digits.now in
+    let i = c.loop-b.b-index in
+    let over : base ≤ digit_value (get_or ds i 0) = search rules in
+    let fails : is_digit (get_or ds i 0) base ≡ false = grind (arith, nat_tests) in
+    let stretch = prefix_len-drop_no (λ b. is_digit b base) ds i 0 c.loop-b-test.true fails in
+    let is : c.from_residual.result ≡ Err NoNumber = search rules in
+    is ∙ no_digits base ds i c.loop-b-test.true (omega (arith, c.loop-b.invariant.digits))
+
+pub returns : goal.returns
+returns c =
+    let base = c.args.base in
+    let ds = c.args.digits.now in
+    let i = c.loop-b.b-index in
+    let none = prefix_len-drop_all (λ b. is_digit b base) ds i c.loop-b-test.false in
+    let value = c.loop-b.invariant.value ∙ ap (λ l. min (digits_value base l) 4294967296) (take_all i ds c.loop-b-test.false) in
+    c.or.ensures ∙ all_digits base ds c.loop-b.value c.try_from.result (search rules) (omega (arith, c.loop-b.invariant.digits)) value c.try_from.ensures
