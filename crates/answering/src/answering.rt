@@ -1,8 +1,7 @@
 // What an engine answers to the console's commands, over any memory and any outlet.
-ghost use Rattle.std.specs.Prelude.{◌≡◌, IfOk, string_bytes};
+ghost use Rattle.std.specs.Prelude.{◌≡◌, Some, Ok, IfOk, string_bytes};
 ghost use Rattle.bank.specs.Logs.{as_turn};
 ghost use Rattle.answering.specs.Answered.{done_told, word_told, taken_told, turn_told, TagsTold, Told, engine_after};
-ghost use Rattle.render.specs.Told.{spaced_text};
 
 use crate::moves::{advance, repeat, tell_repeated};
 use answers::refusal::{NothingWaits, Refusal};
@@ -12,9 +11,23 @@ use formats::entry::{RecordEntry, SentEntry};
 use memory::shared::Memory;
 use model::refusal::{ReadRefusal, RecordRefusal};
 use outlet::waiting::Outlet;
-use render::tell::{tell_entry, tell_look, tell_moved, tell_refused};
+use render::packed_form::Packed;
+use render::tell::{spaced, tell, tell_look, tell_moved, tell_refused};
 use std::alloc::{AllocError, Global};
+use std::fmt;
 use text::show::Shown;
+
+// A word that was read, as it is told.
+#[derive(Clone, Copy)]
+struct Word(u32);
+
+impl fmt::Display for Word {
+    ghost output = { λ w. Some (word_told (Ok w.0)) };
+
+    fn fmt<W: fmt::Write>(&self, f: &mut fmt::Formatter<W>) -> fmt::Result {
+        write!(f, "word {}", self.0)
+    }
+}
 
 // What is told of a call that answers nothing but that it was done.
 fn tell_done<R: Refusal + Drop>(
@@ -24,30 +37,21 @@ fn tell_done<R: Refusal + Drop>(
 ) -> Result<String, AllocError>
     ensures { IfOk result (λ s. string_bytes s ≡ done_told R.Refusal.number done.now answer) }
 {
-    match answer {
-        Ok(()) => String::from_str(heap, done),
-        Err(refusal) => tell_refused(heap, refusal),
-    }
+    tell(heap, answer.map(|()| done))
 }
 
 // What is told of a word that was read.
 fn tell_word(heap: Global, answer: Result<u32, ReadRefusal>) -> Result<String, AllocError>
     ensures { IfOk result (λ s. string_bytes s ≡ word_told answer) }
 {
-    match answer {
-        Ok(word) => format!(in heap; "word {word}"),
-        Err(refusal) => tell_refused(heap, refusal),
-    }
+    tell(heap, answer.map(Word))
 }
 
 // What is told of an entry that was taken.
 fn tell_taken(heap: Global, answer: Result<SentEntry, NothingWaits>) -> Result<String, AllocError>
     ensures { IfOk result (λ s. string_bytes s ≡ taken_told answer) }
 {
-    match answer {
-        Ok(entry) => format!(in heap; "{}", Shown(entry)),
-        Err(refusal) => tell_refused(heap, refusal),
-    }
+    tell(heap, answer.map(Shown))
 }
 
 // What is told of an entry of the record.
@@ -57,22 +61,7 @@ fn tell_recorded(
 ) -> Result<String, AllocError>
     ensures { IfOk result (λ s. string_bytes s ≡ turn_told (as_turn answer)) }
 {
-    match answer {
-        Ok(entry) => tell_entry(heap, entry),
-        Err(refusal) => tell_refused(heap, refusal),
-    }
-}
-
-// Addresses, a space before each.
-fn spaced(heap: Global, addresses: &[usize]) -> Result<String, AllocError>
-    ensures { IfOk result (λ s. string_bytes s ≡ spaced_text addresses.now) }
-{
-    let mut told = String::new(heap);
-    for address in addresses {
-        let one = format!(in heap; " {address}")?;
-        told.push_str(one.as_str())?;
-    }
-    Ok(told)
+    tell(heap, answer.map(Packed))
 }
 
 // The tags that a list of so many places gets.

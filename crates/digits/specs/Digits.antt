@@ -2,14 +2,14 @@
 -- Assumes nothing.
 use Rattle.std.specs.Prelude.{ℕ, ◌/◌, ◌%◌, true, List, [], ◌∷◌, ◌++◌, codes, decimal}
 use Rattle.std.specs.Fmt.{digit_glyph}
+use Rattle.std.specs.List.{flat_map}
 
 -- a byte as two hexadecimal digits in capitals, and some bytes, one after another
 abbrev pub hex_byte : ℕ → List ℕ
 hex_byte b = digit_glyph true (b / 16) ∷ digit_glyph true (b % 16) ∷ []
 
 abbrev pub hex_text : List ℕ → List ℕ
-hex_text [] = []
-hex_text (b ∷ bs) = hex_byte b ++ hex_text bs
+hex_text bs = flat_map hex_byte bs
 
 -- a refusal that tells no place, and one that tells it
 abbrev pub refused_text : ℕ → List ℕ

@@ -1,2 +1,4 @@
 pub mod Answered
 pub mod Gathered
+pub mod Packing
+pub mod Spaced

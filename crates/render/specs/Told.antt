@@ -1,6 +1,7 @@
 -- What the console tells of a packed entry, of a program that was read, of an engine that was made, of a step and of a core.
 -- Assumes nothing.
-use Rattle.std.specs.Prelude.{ℕ, List, ◌++◌, length, Some, None, Ok, Err, codes, decimal, Option, Result}
+use Rattle.std.specs.Prelude.{ℕ, List, [], ◌∷◌, ◌++◌, length, Some, None, Ok, Err, codes, decimal, Option, Result}
+use Rattle.std.specs.Fmt.{option_append}
 use Rattle.std.specs.List.{flat_map}
 use Rattle.std.specs.declared.convert.Infallible.{Infallible}
 use Rattle.answers.specs.declared.answer.Answer.{Answer}
@@ -25,6 +26,11 @@ use Rattle.digits.specs.Digits.{hex_text, refused_text, refused_at_text}
 use Rattle.text.specs.Texts.{instruction_text, record_text, sent_text}
 use Rattle.commands.specs.declared.kind.Kind.{Kind}
 use Rattle.commands.specs.declared.kind.Kind.TheVariants.{Instruction as OfInstruction, Entry as OfEntry, Sent as OfSent}
+
+-- what was asked for, if it has a text, or the refusal by its number
+abbrev pub answer_told : {T R : Type 0} → (T → Option (List ℕ)) → (R → ℕ) → Result T R → Option (List ℕ)
+answer_told output number (Ok value) = output value
+answer_told output number (Err r) = Some (refused_text (number r))
 
 -- a place outside, or the number and the place of an instruction that does not unpack
 abbrev pub refused_instruction : ListRefusal InstructionFault → List ℕ
@@ -63,6 +69,11 @@ made_told (Err r) count = refused_text (check_number r) ++ codes " cores 0"
 -- numbers, a space before each
 abbrev pub spaced_text : List ℕ → List ℕ
 spaced_text ns = flat_map (λ n. codes " " ++ decimal n) ns
+
+-- some values, a space before each, if each has a text
+abbrev pub spaced_told : {T : Type 0} → (T → Option (List ℕ)) → List T → Option (List ℕ)
+spaced_told output [] = Some []
+spaced_told output (x ∷ xs) = option_append (option_append (Some (codes " ")) (output x)) (spaced_told output xs)
 
 -- a core as people see it: its state, and then its numbers by their names
 abbrev pub look_text : Look → List ℕ

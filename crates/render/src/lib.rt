@@ -4,4 +4,5 @@
 mod entries;
 pub mod line;
 pub mod packed_answers;
+pub mod packed_form;
 pub mod tell;

@@ -8,7 +8,7 @@ ghost use Rattle.render.specs.Told.{count_read, after_reading, program_told};
 
 use crate::entries::{count, spare, tell_at};
 use crate::line::write_line;
-use answers::refusal::{ProgramRefusal, Refusal};
+use answers::refusal::ProgramRefusal;
 use commands::kind::Kind;
 use commands::packed_command::PackedCommand;
 use digits::refused::RefusedAt;
@@ -45,14 +45,10 @@ fn accept(bytes: &[u8], program: &mut Option<Program>) -> Result<usize, ProgramR
     ensures value { result ≡ count_read (read_program bytes.now) }
     ensures after { option_map instructions_of program.new ≡ after_reading (read_program bytes.now) (option_map instructions_of program.old) }
 {
-    match Program::read(bytes) {
-        Ok(accepted) => {
-            let count = accepted.len();
-            *program = Some(accepted);
-            Ok(count)
-        }
-        Err(refusal) => Err(refusal),
-    }
+    let accepted = Program::read(bytes)?;
+    let count = accepted.len();
+    *program = Some(accepted);
+    Ok(count)
 }
 
 // What is told of a program that was read.
@@ -64,7 +60,7 @@ fn tell_program(heap: Global, read: Result<usize, ProgramRefusal>) -> Result<Str
         Err(refusal) => format!(in heap;
             "{}",
             RefusedAt {
-                number: refusal.number(),
+                refusal,
                 place: refusal.place
             }
         ),

@@ -1,12 +1,11 @@
-// What the console tells of an unpacked entry: its text and its packed form, or the refusal.
-ghost use Rattle.std.specs.Prelude.{◌≡◌, IfOk, string_bytes};
-ghost use Rattle.render.specs.Told.{refused_instruction, instruction_told, entry_told, record_told, sent_told, moved_told, made_told, spaced_text, look_told};
+// What the console tells: the text of an entry or of an answer, or the refusal.
+ghost use Rattle.std.specs.Prelude.{◌≡◌, IfOk, IfSome, string_bytes};
+ghost use Rattle.render.specs.Told.{answer_told, refused_instruction, instruction_told, record_told, sent_told, moved_told, made_told, spaced_told, look_told};
 ghost use Rattle.digits.specs.Digits.{refused_text};
 
+use crate::packed_form::Packed;
 use answers::answer::Answer;
-use answers::refusal::{EntryFault, InstructionFault, ListRefusal, Refusal};
-use codecs::packed::PackedEntry;
-use digits::hex::{Hex8, Hex10};
+use answers::refusal::{EntryFault, InstructionFault, ListRefusal, OutsideList, Refusal};
 use digits::refused::{Refused, RefusedAt};
 use formats::entry::{RecordEntry, SentEntry};
 use formats::instruction::Instruction;
@@ -14,7 +13,28 @@ use model::refusal::{CheckRefusal, StepRefusal};
 use model::state::Look;
 use std::alloc::{AllocError, Global};
 use std::convert::Infallible;
+use std::fmt;
 use text::show::Shown;
+
+// A refusal that tells no place.
+pub fn tell_refused<R: Refusal + Drop>(heap: Global, refusal: R) -> Result<String, AllocError>
+    ensures { IfOk result (λ s. string_bytes s ≡ refused_text (R.Refusal.number refusal)) }
+{
+    format!(in heap; "{}", Refused(refusal))
+}
+
+// What was asked for, or a refusal that tells no place.
+pub fn tell<T: fmt::Display + Drop, R: Refusal + Drop>(
+    heap: Global,
+    answer: Result<T, R>,
+) -> Result<String, AllocError>
+    ensures { IfOk result (λ s. IfSome (answer_told T.Display.output R.Refusal.number answer) (λ text. string_bytes s ≡ text)) }
+{
+    match answer {
+        Ok(value) => format!(in heap; "{value}"),
+        Err(refusal) => tell_refused(heap, refusal),
+    }
+}
 
 // A place outside, or the number and the place of an instruction that does not unpack.
 fn tell_refused_instruction(
@@ -24,11 +44,11 @@ fn tell_refused_instruction(
     ensures { IfOk result (λ s. string_bytes s ≡ refused_instruction refusal) }
 {
     match refusal {
-        ListRefusal::Outside => format!(in heap; "{}", Refused { number: 16 }),
+        ListRefusal::Outside => tell_refused(heap, refusal),
         ListRefusal::Entry(placed) => format!(in heap;
             "{}",
             RefusedAt {
-                number: placed.fault.number(),
+                refusal: placed.fault,
                 place: placed.place
             }
         ),
@@ -43,38 +63,36 @@ pub(crate) fn tell_instruction(
     ensures { IfOk result (λ s. string_bytes s ≡ instruction_told unpacked) }
 {
     match unpacked {
-        Ok(instruction) => format!(in heap;
-            "{} = 0x{}",
-            Shown(instruction),
-            Hex8(instruction.pack())
-        ),
+        Ok(instruction) => format!(in heap; "{}", Packed(instruction)),
         Err(refusal) => tell_refused_instruction(heap, refusal),
     }
 }
 
-// A refusal that tells no place.
-pub fn tell_refused<R: Refusal + Drop>(heap: Global, refusal: R) -> Result<String, AllocError>
-    ensures { IfOk result (λ s. string_bytes s ≡ refused_text (R.Refusal.number refusal)) }
+// A refused record entry tells no place.
+pub(crate) fn tell_record(
+    heap: Global,
+    unpacked: Result<RecordEntry, ListRefusal<EntryFault>>,
+) -> Result<String, AllocError>
+    ensures { IfOk result (λ s. string_bytes s ≡ record_told unpacked) }
 {
-    let number = refusal.number();
-    format!(in heap; "{}", Refused { number })
+    tell(heap, unpacked.map(Packed))
 }
 
-// A record entry: its text and its packed form.
-pub fn tell_entry(heap: Global, entry: RecordEntry) -> Result<String, AllocError>
-    ensures { IfOk result (λ s. string_bytes s ≡ entry_told entry) }
+// Any five bytes are an outlet entry, so only a place outside is refused.
+pub(crate) fn tell_sent(
+    heap: Global,
+    unpacked: Result<SentEntry, ListRefusal<Infallible>>,
+) -> Result<String, AllocError>
+    ensures { IfOk result (λ s. string_bytes s ≡ sent_told unpacked) }
 {
-    format!(in heap; "{} = 0x{}", Shown(entry), Hex8(entry.pack()))
+    tell(heap, unpacked.map(Packed).or(Err(OutsideList)))
 }
 
 // What a step or a turn answered.
 pub fn tell_moved(heap: Global, moved: Result<Answer, StepRefusal>) -> Result<String, AllocError>
     ensures { IfOk result (λ s. string_bytes s ≡ moved_told moved) }
 {
-    match moved {
-        Ok(answer) => format!(in heap; "{}", Shown(answer)),
-        Err(refusal) => tell_refused(heap, refusal),
-    }
+    tell(heap, moved.map(Shown))
 }
 
 // How many cores a new engine has, or why it has none.
@@ -87,21 +105,17 @@ pub fn tell_made(
 {
     match checked {
         Ok(()) => format!(in heap; "cores {count}"),
-        Err(refusal) => {
-            let number = refusal.number();
-            format!(in heap; "{} cores 0", Refused { number })
-        }
+        Err(refusal) => format!(in heap; "{} cores 0", Refused(refusal)),
     }
 }
 
-// Numbers, a space before each.
-fn spaced(heap: Global, numbers: &[u32]) -> Result<String, AllocError>
-    ensures { IfOk result (λ s. string_bytes s ≡ spaced_text numbers.now) }
+// Some values, a space before each.
+pub fn spaced<T: fmt::Display>(heap: Global, values: &[T]) -> Result<String, AllocError>
+    ensures { IfOk result (λ s. IfSome (spaced_told T.output values.now) (λ text. string_bytes s ≡ text)) }
 {
     let mut told = String::new(heap);
-    for number in numbers {
-        let one = format!(in heap; " {number}")?;
-        told.push_str(one.as_str())?;
+    for value in values {
+        write!(told, " {value}")?;
     }
     Ok(told)
 }
@@ -122,30 +136,4 @@ pub fn tell_look(heap: Global, look: Option<Look>) -> Result<String, AllocError>
         look.count,
         look.used
     )
-}
-
-// A refused record entry tells no place.
-pub(crate) fn tell_record(
-    heap: Global,
-    unpacked: Result<RecordEntry, ListRefusal<EntryFault>>,
-) -> Result<String, AllocError>
-    ensures { IfOk result (λ s. string_bytes s ≡ record_told unpacked) }
-{
-    match unpacked {
-        Ok(entry) => tell_entry(heap, entry),
-        Err(refusal) => tell_refused(heap, refusal),
-    }
-}
-
-// Any five bytes are an outlet entry, so only a place outside is refused.
-pub(crate) fn tell_sent(
-    heap: Global,
-    unpacked: Result<SentEntry, ListRefusal<Infallible>>,
-) -> Result<String, AllocError>
-    ensures { IfOk result (λ s. string_bytes s ≡ sent_told unpacked) }
-{
-    match unpacked {
-        Ok(entry) => format!(in heap; "{} = {}", Shown(entry), Hex10(entry.pack())),
-        Err(_) => format!(in heap; "{}", Refused { number: 16 }),
-    }
 }

@@ -1,5 +1,6 @@
 // Tests at the edges.
-use digits::hex::{Hex8, Hex10};
+use answers::refusal::InstructionFault;
+use digits::hex::Hex;
 use digits::refused::RefusedAt;
 use formats::below::Immediate;
 use formats::instruction::Instruction;
@@ -66,15 +67,15 @@ fn texts_are_the_documented_ones(rt: HostRuntime) -> Result<(), Fail> {
         "STORE R0 R7 262143"
     );
     assert_eq!(rt;
-        format!(in heap; "{}", Hex8(0xB0001000))?.as_str(),
+        format!(in heap; "{}", Hex::<4>(0xB0001000))?.as_str(),
         "B0001000"
     );
     assert_eq!(rt;
-        format!(in heap; "{}", Hex10(0xC8FFFFFFFF))?.as_str(),
+        format!(in heap; "{}", Hex::<5>(0xC8FFFFFFFF))?.as_str(),
         "C8FFFFFFFF"
     );
     let refused = RefusedAt {
-        number: 3,
+        refusal: InstructionFault::BadField,
         place: 511,
     };
     assert_eq!(rt; format!(in heap; "{refused}")?.as_str(), "refused 3 at 511");

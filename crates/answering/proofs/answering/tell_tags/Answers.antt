@@ -3,6 +3,7 @@ use Rattle.std.proofs.lemmas.List.{with_items_is}
 use Rattle.std.proofs.lemmas.Result.{IfOk-weaker}
 use Rattle.model.specs.Calls.{Tags}
 use Rattle.render.specs.Told.{spaced_text}
+use Rattle.render.proofs.Spaced.{numbers_told}
 use Rattle.answering.specs.Answered.{TagsTold, tags_text}
 use Rattle.answering.proofs.answering.tell_tags.Goals as goal
 
@@ -14,7 +15,7 @@ returns-in-Ok g c =
     let zeros : c.as_mut_slice.result.now ≡ replicate c.args.places 0 = c.as_mut_slice.ensures.value ∙ c.in_ok-list.ensures.items_if_clones_equal (λ y is. is) in
     let long : length after ≡ c.in_ok-list.list.len = omega arith in
     let first = c.truncate.ensures.items ∙ ap (take count) (with_items_is c.in_ok-list.list after long) in
-    let told = c.in_ok-addresses-in-Ok.ensures ∙ ap spaced_text (c.as_slice.ensures.value ∙ first) in
+    let told = numbers_told _ _ c.in_ok-addresses-in-Ok.ensures ∙ ap spaced_text (c.as_slice.ensures.value ∙ first) in
     let Allowed : List ℕ → Type 0 = λ l. Tags e c.args.core l after c.tags.result in
     IfOk-weaker c.format.result
     (λ s. string_bytes s ≡ decimal count ++ (codes ":" ++ string_bytes c.in_ok-addresses-in-Ok.addresses))

@@ -1,6 +1,7 @@
-use Rattle.std.proofs.Common.{◌≡◌, take, string_bytes}
-use Rattle.render.specs.Told.{spaced_text}
+use Rattle.std.proofs.Common.{◌≡◌, take, IfSome, string_bytes}
+use Rattle.render.specs.Told.{spaced_told}
 use Rattle.render.proofs.tell.spaced.Given as goal
 
-abbrev pub invariant-loop-number : goal.invariant-loop-number
-invariant-loop-number l = string_bytes l.told ≡ spaced_text (take l.number-index l.numbers)
+abbrev pub invariant-loop-value : goal.invariant-loop-value
+invariant-loop-value g l =
+    IfSome (spaced_told g.T.Display.output (take l.value-index l.values)) (λ text. string_bytes l.told ≡ text)

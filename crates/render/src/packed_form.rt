@@ -1,0 +1,46 @@
+// Entries with their packed form.
+ghost use Rattle.std.specs.Prelude.{Some, Ok};
+ghost use Rattle.render.specs.Told.{instruction_told, entry_told, sent_told};
+
+use codecs::packed::PackedEntry;
+use digits::hex::Hex;
+use formats::entry::{RecordEntry, SentEntry};
+use formats::instruction::Instruction;
+use std::fmt;
+use text::show::Shown;
+
+// An entry's text and its packed form.
+#[derive(Clone, Copy)]
+pub struct Packed<E>(pub E);
+
+impl fmt::Display for Packed<Instruction> {
+    ghost output = { λ p. Some (instruction_told (Ok p.0)) };
+
+    fn fmt<W: fmt::Write>(&self, f: &mut fmt::Formatter<W>) -> fmt::Result {
+        let Packed(instruction) = *self;
+        write!(
+            f,
+            "{} = 0x{}",
+            Shown(instruction),
+            Hex::<4>(instruction.pack())
+        )
+    }
+}
+
+impl fmt::Display for Packed<RecordEntry> {
+    ghost output = { λ p. Some (entry_told p.0) };
+
+    fn fmt<W: fmt::Write>(&self, f: &mut fmt::Formatter<W>) -> fmt::Result {
+        let Packed(entry) = *self;
+        write!(f, "{} = 0x{}", Shown(entry), Hex::<4>(entry.pack()))
+    }
+}
+
+impl fmt::Display for Packed<SentEntry> {
+    ghost output = { λ p. Some (sent_told (Ok p.0)) };
+
+    fn fmt<W: fmt::Write>(&self, f: &mut fmt::Formatter<W>) -> fmt::Result {
+        let Packed(entry) = *self;
+        write!(f, "{} = {}", Shown(entry), Hex::<5>(entry.pack()))
+    }
+}
