@@ -1,19 +1,17 @@
 -- Words as numbers, word by word; and a refusal that stays.
 -- Assumes nothing.
-use Rattle.std.proofs.Common.{◌≡◌, ℕ, true, false, List, [], ◌∷◌, ◌++◌, Some, None, Ok, Err, codes, Option, Result, sym, refl, ap, ◌∙◌, append_assoc, append-nil, arith}
+use Rattle.std.proofs.Common.{◌≡◌, ℕ, List, [], ◌∷◌, ◌++◌, Some, None, Ok, Err, Option, Result, sym, refl, ap, ◌∙◌, append_assoc, append-nil, arith}
 use Rattle.std.specs.Result.{result_map_both}
-use Rattle.std.specs.Str.{bytes_eq}
 use Rattle.std.specs.Option.{option_map as mapped_some}
-use Rattle.tokens.specs.declared.number.NumberFault.{NumberFault}
 use Rattle.tokens.specs.Numbers.{read_number}
 use Rattle.commands.specs.declared.reason.Reason.{Reason}
 use Rattle.commands.specs.declared.reason.ParseError.{ParseError}
 use Rattle.commands.specs.declared.reason.ParseError.TheVariants.{NotUnderstood, NoMemory}
 use Rattle.commands.specs.declared.command.Command.{Command}
-use Rattle.commands.specs.Parsing.{zeros_of, outlet_of, named_of, line_of}
+use Rattle.commands.specs.Parsing.{named_of, line_of}
 use Rattle.commands.specs.Said.{said}
 use Rattle.commands.specs.Reasons.{Reads, number_reason}
-use Rattle.commands.specs.Words.{first, others, then, numbers_of}
+use Rattle.commands.specs.Words.{first, others, then, as_number, numbers_of}
 
 -- the words are the one that was taken and those that are left
 pub taken : (ws rest : List (List ℕ)) (word : List ℕ) → Some word ≡ first ws → rest ≡ others ws → ws ≡ word ∷ rest
@@ -23,10 +21,10 @@ taken [] rest word e r =
 taken (w ∷ ws) rest word e r = cc
 
 -- a word that is no number
-pub faulty : (ws rest : List (List ℕ)) (word : List ℕ) (fault : NumberFault) (next : List ℕ → Result (List ℕ) Reason) → ws ≡ word ∷ rest → Err fault ≡ read_number word → Err (number_reason fault) ≡ then (numbers_of ws) next
+pub faulty : (ws rest : List (List ℕ)) (word : List ℕ) (reason : Reason) (next : List ℕ → Result (List ℕ) Reason) → ws ≡ word ∷ rest → Err reason ≡ as_number word → Err reason ≡ then (numbers_of ws) next
 unfolding numbers_of
-faulty ws rest word fault next e f =
-    ap (λ r. then (then (result_map_both (λ n. n) number_reason r) (λ n. then (numbers_of rest) (λ ns. Ok (n ∷ ns)))) next) f ∙ ap (λ v. then (numbers_of v) next) (sym e)
+faulty ws rest word reason next e f =
+    ap (λ r. then (then r (λ n. then (numbers_of rest) (λ ns. Ok (n ∷ ns)))) next) f ∙ ap (λ v. then (numbers_of v) next) (sym e)
 
 regroup : (n : ℕ) (xs : List ℕ) (r : Result (List ℕ) Reason) → then (then r (λ ns. Ok (n ∷ ns))) (λ ns. Ok (xs ++ ns)) ≡ then r (λ ns. Ok ((xs ++ n ∷ []) ++ ns))
 regroup n xs (Ok ns) = ap Ok (sym (append_assoc xs (n ∷ []) ns))
@@ -47,10 +45,6 @@ stays view other next NoMemory wanted h = tt
 pub line_stays : (r : Result (Option Command) ParseError) (y error : ParseError) (ws rest : List (List ℕ)) (word : List ℕ) → r ≡ Err y → y ≡ error → ws ≡ word ∷ rest → Reads said (Err error) (named_of word rest) → Reads (mapped_some said) r (line_of ws)
 line_stays r y error ws rest word is same split h =
     rw (is, same, split) (stays said (mapped_some said) (λ s. Ok (Some s)) error (named_of word rest) h)
-
--- `bytes` after `outlet`
-pub outlet_zeros : (ws rest : List (List ℕ)) (word : List ℕ) → ws ≡ word ∷ rest → false ≡ bytes_eq word (codes "store") → true ≡ bytes_eq word (codes "bytes") → zeros_of rest ≡ outlet_of ws
-outlet_zeros ws rest word split store bytes = rw (split, sym store, sym bytes)
 
 -- no word, no number
 pub none_counted : (ws : List (List ℕ)) (xs : List ℕ) → None ≡ first ws → Ok xs ≡ then (numbers_of ws) (λ ns. Ok (xs ++ ns))

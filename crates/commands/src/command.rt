@@ -1,7 +1,8 @@
 // A line as a command.
 ghost use Rattle.std.specs.Prelude.{◌≡◌, IfOk};
 ghost use Rattle.std.specs.Option.{option_map};
-ghost use Rattle.commands.specs.Parsing.{settings_of, named_of, command_of};
+ghost use Rattle.commands.specs.Names.{packed_name_of};
+ghost use Rattle.commands.specs.Parsing.{settings_of, packed_if, named_of, command_of};
 ghost use Rattle.commands.specs.Reasons.{Reads};
 ghost use Rattle.commands.specs.Said.{settings_said, said};
 ghost use Rattle.commands.specs.Words.{left};
@@ -10,7 +11,7 @@ use crate::machine::{EngineCommand, EngineName};
 use crate::packed_command::{PackedCommand, PackedName};
 use crate::reason::{ParseError, Reason};
 use crate::setting::{memory_buffer, outlet_buffer};
-use crate::words::{Words, is};
+use crate::words::{Words, as_name};
 use buffers::buffers::{MemoryBuffer, OutletBuffer};
 use std::alloc::{AllocError, Global};
 
@@ -37,11 +38,7 @@ pub struct Settings {
 fn widened(heap: Global, numbers: &[u32]) -> Result<Vec<usize>, AllocError>
     ensures { IfOk result (λ v. v.items ≡ numbers.now) }
 {
-    let mut places = Vec::new(heap);
-    for number in numbers {
-        places.push(*number as usize)?;
-    }
-    Ok(places)
+    numbers.iter().map(|n| *n as usize).collect(heap)
 }
 
 impl Settings {
@@ -61,13 +58,19 @@ impl Command {
     fn named(heap: Global, word: &[u8], words: Words) -> Result<Command, ParseError>
         ensures { Reads said result (named_of word.now (left words.entry)) }
     {
-        if is(word, "memory") {
-            Ok(Command::Memory(memory_buffer(heap, words)?))
-        } else if is(word, "outlet") {
-            Ok(Command::Outlet(outlet_buffer(heap, words)?))
-        } else if is(word, "make") {
-            Ok(Command::Make(Settings::parse(heap, words)?))
-        } else if let Some(name) = PackedName::named(word) {
+        match as_name(word) {
+            "memory" => Ok(Command::Memory(memory_buffer(heap, words)?)),
+            "outlet" => Ok(Command::Outlet(outlet_buffer(heap, words)?)),
+            "make" => Ok(Command::Make(Settings::parse(heap, words)?)),
+            _ => Command::of_two(heap, word, words),
+        }
+    }
+
+    // The same for a command on programs and packed words, else one to an engine.
+    fn of_two(heap: Global, word: &[u8], words: Words) -> Result<Command, ParseError>
+        ensures { Reads said result (packed_if (packed_name_of word.now) word.now (left words.entry)) }
+    {
+        if let Some(name) = PackedName::named(word) {
             Ok(Command::Packed(PackedCommand::parse(heap, name, words)?))
         } else if let Some(name) = EngineName::named(word) {
             Ok(Command::Engine(EngineCommand::parse(name, words)?))

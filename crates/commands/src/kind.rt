@@ -2,7 +2,7 @@
 ghost use Rattle.std.specs.Prelude.{◌≡◌};
 ghost use Rattle.commands.specs.Names.{kind_of};
 
-use crate::words::is;
+use crate::words::as_name;
 
 #[derive(Clone, Copy)]
 pub enum Kind {
@@ -16,14 +16,11 @@ impl Kind {
     pub(crate) fn named(word: &[u8]) -> Option<Kind>
         ensures { result ≡ kind_of word.now }
     {
-        if is(word, "instruction") {
-            Some(Kind::Instruction)
-        } else if is(word, "entry") {
-            Some(Kind::Entry)
-        } else if is(word, "sent") {
-            Some(Kind::Sent)
-        } else {
-            None
+        match as_name(word) {
+            "instruction" => Some(Kind::Instruction),
+            "entry" => Some(Kind::Entry),
+            "sent" => Some(Kind::Sent),
+            _ => None,
         }
     }
 }

@@ -1,11 +1,11 @@
 // The commands to an engine.
 ghost use Rattle.std.specs.Prelude.{◌≡◌};
-ghost use Rattle.commands.specs.Names.{engine_name_of, look_name_of};
+ghost use Rattle.commands.specs.Names.{engine_name_of};
 ghost use Rattle.commands.specs.Parsing.{engine_of};
 ghost use Rattle.commands.specs.Words.{left};
 
 use crate::reason::Reason;
-use crate::words::{Words, is};
+use crate::words::{Words, as_name};
 
 // Which core is moved.
 #[derive(Clone, Copy)]
@@ -54,47 +54,25 @@ pub(crate) enum EngineName {
 }
 
 impl EngineName {
-    // The name that a word is: of a move or of the token's way, else one of those below.
+    // The name that a word is.
     pub(crate) fn named(word: &[u8]) -> Option<EngineName>
         ensures { result ≡ engine_name_of word.now }
     {
-        if is(word, "step") {
-            Some(EngineName::Step)
-        } else if is(word, "turn") {
-            Some(EngineName::Turn)
-        } else if is(word, "steps") {
-            Some(EngineName::Steps)
-        } else if is(word, "turns") {
-            Some(EngineName::Turns)
-        } else if is(word, "hold") {
-            Some(EngineName::Hold)
-        } else if is(word, "give") {
-            Some(EngineName::Give)
-        } else {
-            EngineName::looking(word)
-        }
-    }
-
-    // The names of commands that look, take or clear.
-    fn looking(word: &[u8]) -> Option<EngineName>
-        ensures { result ≡ look_name_of word.now }
-    {
-        if is(word, "read") {
-            Some(EngineName::Read)
-        } else if is(word, "take") {
-            Some(EngineName::Take)
-        } else if is(word, "clear") {
-            Some(EngineName::Clear)
-        } else if is(word, "record") {
-            Some(EngineName::Record)
-        } else if is(word, "tags") {
-            Some(EngineName::Tags)
-        } else if is(word, "core") {
-            Some(EngineName::Core)
-        } else if is(word, "token") {
-            Some(EngineName::Token)
-        } else {
-            None
+        match as_name(word) {
+            "step" => Some(EngineName::Step),
+            "turn" => Some(EngineName::Turn),
+            "steps" => Some(EngineName::Steps),
+            "turns" => Some(EngineName::Turns),
+            "hold" => Some(EngineName::Hold),
+            "give" => Some(EngineName::Give),
+            "read" => Some(EngineName::Read),
+            "take" => Some(EngineName::Take),
+            "clear" => Some(EngineName::Clear),
+            "record" => Some(EngineName::Record),
+            "tags" => Some(EngineName::Tags),
+            "core" => Some(EngineName::Core),
+            "token" => Some(EngineName::Token),
+            _ => None,
         }
     }
 }
@@ -113,8 +91,8 @@ impl EngineCommand {
             }
             EngineName::Turns => Ok(EngineCommand::Moves(Move::Turn, words.last_times()?)),
             EngineName::Hold => words.end(EngineCommand::Hold),
-            EngineName::Give => match words.next() {
-                Some(word) if is(word, "back") => words.end(EngineCommand::GiveBack),
+            EngineName::Give => match words.name() {
+                "back" => words.end(EngineCommand::GiveBack),
                 _ => Err(Reason::UnknownCommand),
             },
             EngineName::Read => Ok(EngineCommand::Read(words.last_place()?)),

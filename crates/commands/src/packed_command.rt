@@ -8,7 +8,7 @@ ghost use Rattle.commands.specs.Words.{left, others};
 
 use crate::kind::Kind;
 use crate::reason::{ParseError, Reason};
-use crate::words::{Words, is};
+use crate::words::{Words, as_name};
 use std::alloc::{AllocError, Global};
 
 #[derive(Drop)]
@@ -37,16 +37,12 @@ impl PackedName {
     pub(crate) fn named(word: &[u8]) -> Option<PackedName>
         ensures { result ≡ packed_name_of word.now }
     {
-        if is(word, "program") {
-            Some(PackedName::Program)
-        } else if is(word, "program-bytes") {
-            Some(PackedName::ProgramBytes)
-        } else if is(word, "list") {
-            Some(PackedName::List)
-        } else if is(word, "image") {
-            Some(PackedName::Image)
-        } else {
-            Some(PackedName::One(Kind::named(word)?))
+        match as_name(word) {
+            "program" => Some(PackedName::Program),
+            "program-bytes" => Some(PackedName::ProgramBytes),
+            "list" => Some(PackedName::List),
+            "image" => Some(PackedName::Image),
+            _ => Kind::named(word).map(PackedName::One),
         }
     }
 }

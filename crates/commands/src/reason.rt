@@ -1,9 +1,10 @@
 // Why a line is not understood.
-ghost use Rattle.std.specs.Prelude.{◌≡◌};
+ghost use Rattle.std.specs.Prelude.{◌≡◌, Some};
 ghost use Rattle.commands.specs.Reasons.{reason_text, number_reason};
 ghost use Rattle.commands.specs.declared.reason.ParseError.TheVariants.{NotUnderstood, NoMemory};
 
 use std::alloc::{AllocError, AllocFailed};
+use std::fmt;
 use tokens::number::NumberFault;
 
 #[derive(Clone, Copy, PartialEq, Eq, Debug)]
@@ -20,12 +21,12 @@ pub enum Reason {
     NoEngine,
 }
 
-impl Reason {
-    // The words after `-> not understood: `.
-    pub fn text(self) -> &'static str
-        ensures { result.now ≡ reason_text self }
-    {
-        match self {
+// The words after `-> not understood: `.
+impl fmt::Display for Reason {
+    ghost output = { λ r. Some (reason_text r) };
+
+    fn fmt<W: fmt::Write>(&self, f: &mut fmt::Formatter<W>) -> fmt::Result {
+        f.write_str(match self {
             Reason::UnknownCommand => "unknown command",
             Reason::MissingWord => "missing word",
             Reason::NoNumber => "no number",
@@ -36,7 +37,7 @@ impl Reason {
             Reason::ExtraWord => "extra word",
             Reason::NoProgram => "no program",
             Reason::NoEngine => "no engine",
-        }
+        })
     }
 }
 

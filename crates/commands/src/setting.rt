@@ -5,7 +5,7 @@ ghost use Rattle.commands.specs.Reasons.{Reads};
 ghost use Rattle.commands.specs.Words.{left};
 
 use crate::reason::{ParseError, Reason};
-use crate::words::{Words, is};
+use crate::words::Words;
 use buffers::buffers::{MemoryBuffer, OutletBuffer};
 use std::alloc::Global;
 
@@ -13,16 +13,13 @@ use std::alloc::Global;
 pub(crate) fn memory_buffer(heap: Global, mut words: Words) -> Result<MemoryBuffer, ParseError>
     ensures { Reads memory_said result (memory_of (left words.entry)) }
 {
-    let Some(word) = words.next() else {
-        return Err(ParseError::NotUnderstood(Reason::UnknownCommand));
-    };
-    if is(word, "words") {
-        Ok(MemoryBuffer::Words(words.numbers(heap)?))
-    } else if is(word, "bytes") {
-        let bytes = words.bytes(heap)?;
-        Ok(words.end(MemoryBuffer::Bytes(bytes))?)
-    } else {
-        Err(ParseError::NotUnderstood(Reason::UnknownCommand))
+    match words.name() {
+        "words" => Ok(MemoryBuffer::Words(words.numbers(heap)?)),
+        "bytes" => {
+            let bytes = words.bytes(heap)?;
+            Ok(words.end(MemoryBuffer::Bytes(bytes))?)
+        }
+        _ => Err(ParseError::NotUnderstood(Reason::UnknownCommand)),
     }
 }
 
@@ -38,14 +35,9 @@ fn zeros(heap: Global, words: Words) -> Result<OutletBuffer, ParseError>
 pub(crate) fn outlet_buffer(heap: Global, mut words: Words) -> Result<OutletBuffer, ParseError>
     ensures { Reads outlet_said result (outlet_of (left words.entry)) }
 {
-    let Some(word) = words.next() else {
-        return Err(ParseError::NotUnderstood(Reason::UnknownCommand));
-    };
-    if is(word, "store") {
-        Ok(words.end(OutletBuffer::Store)?)
-    } else if is(word, "bytes") {
-        zeros(heap, words)
-    } else {
-        Err(ParseError::NotUnderstood(Reason::UnknownCommand))
+    match words.name() {
+        "store" => Ok(words.end(OutletBuffer::Store)?),
+        "bytes" => zeros(heap, words),
+        _ => Err(ParseError::NotUnderstood(Reason::UnknownCommand)),
     }
 }

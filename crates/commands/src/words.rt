@@ -1,8 +1,7 @@
 // The words of a line, taken from left to right.
-ghost use Rattle.std.specs.Prelude.{◌≡◌, ◌<◌, length, OnSome, vec_items};
+ghost use Rattle.std.specs.Prelude.{◌≡◌, ℕ, ◌<◌, List, length, OnSome, IsAscii, vec_items};
 ghost use Rattle.std.specs.Option.{option_map};
 ghost use Rattle.std.specs.Result.{result_map_both as mapped_ok};
-ghost use Rattle.std.specs.Str.{bytes_eq};
 ghost use Rattle.commands.specs.Reasons.{Reads};
 ghost use Rattle.tokens.specs.Lines.{next_token};
 ghost use Rattle.commands.specs.Words.{first_of, rest_of, end_of, words_of, left, first, others, word_of, number_of, times_of, bytes_of, numbers_of, ended, last_number_of, last_times_of};
@@ -16,11 +15,12 @@ use tokens::number::read_number;
 // The most steps, turns, bytes or places that one command asks for.
 const MOST_TIMES: u32 = 65_536;
 
-// Whether a word is this one.
-pub(crate) fn is(word: &[u8], name: &str) -> bool
-    ensures { result ≡ bytes_eq word.now name.now }
+// The word as a text to be compared with names. One that is no text is read as the empty text, which is no name.
+pub(crate) fn as_name(word: &[u8]) -> &str
+    ensures known { 0 < length result.now → result.now ≡ word.now }
+    ensures ascii { IsAscii word.now → result.now ≡ word.now }
 {
-    word == name.as_bytes()
+    std::str::from_utf8(word).unwrap_or("")
 }
 
 #[derive(Clone, Copy)]
@@ -47,6 +47,15 @@ impl<'a> Words<'a> {
         let (token, rest) = next_token(self.rest)?;
         self.rest = rest;
         Some(token)
+    }
+
+    // The next word as a text to be compared with names. Where no word is left, the empty text.
+    pub(crate) fn name(&mut self) -> &'a str
+        ensures known { 0 < length result.now → first (left self.old) ≡ Some result.now }
+        ensures ascii { (word : List ℕ) → first (left self.old) ≡ Some word → IsAscii word → result.now ≡ word }
+        ensures after { left self.new ≡ others (left self.old) }
+    {
+        self.next().map_or("", as_name)
     }
 
     // The next word, which has to be there.
@@ -90,10 +99,7 @@ impl<'a> Words<'a> {
         ensures after { left self.new ≡ others (left self.old) }
     {
         let word = self.word()?;
-        match read_bytes(heap, word)? {
-            Some(bytes) => Ok(bytes),
-            None => Err(ParseError::NotUnderstood(Reason::NoBytes)),
-        }
+        Ok(read_bytes(heap, word)?.ok_or(Reason::NoBytes)?)
     }
 
     // All words that are left, as numbers.
@@ -102,11 +108,7 @@ impl<'a> Words<'a> {
     {
         let mut numbers = Vec::new(heap);
         while let Some(word) = self.next() {
-            let number = match read_number(word) {
-                Ok(number) => number,
-                Err(fault) => return Err(ParseError::NotUnderstood(fault.into())),
-            };
-            numbers.push(number)?;
+            numbers.push(read_number(word).map_err(Reason::from)?)?;
         }
         Ok(numbers)
     }

@@ -1,19 +1,28 @@
-use Rattle.std.proofs.Common.{sym}
+use Rattle.std.proofs.Common.{codes, sym, refl, ap, arith}
 use Rattle.commands.specs.Names.{kind_of}
+use Rattle.commands.proofs.Names.{the_name, other}
 use Rattle.commands.proofs.kind.Kind.named.Goals as goal
 
-pub returns-then-is : goal.returns-then-is
+pub returns-in-instruction : goal.returns-in-instruction
 unfolding kind_of
-returns-then-is c = rw (sym c.if-is.ensures)
+returns-in-instruction c = ap kind_of (sym (the_name c.args.word.now c.as_name.result.now (codes "instruction") c.as_name.ensures.known (omega arith) c.in-instruction.is))
 
-pub returns-then-is-2 : goal.returns-then-is-2
+pub returns-in-entry : goal.returns-in-entry
 unfolding kind_of
-returns-then-is-2 c = rw (sym c.if-is.ensures, sym c.if-is-2.ensures)
+returns-in-entry c = ap kind_of (sym (the_name c.args.word.now c.as_name.result.now (codes "entry") c.as_name.ensures.known (omega arith) c.in-entry.is))
 
-pub returns-then-is-3 : goal.returns-then-is-3
+pub returns-in-sent : goal.returns-in-sent
 unfolding kind_of
-returns-then-is-3 c = rw (sym c.if-is.ensures, sym c.if-is-2.ensures, sym c.if-is-3.ensures)
+returns-in-sent c = ap kind_of (sym (the_name c.args.word.now c.as_name.result.now (codes "sent") c.as_name.ensures.known (omega arith) c.in-sent.is))
 
-pub returns-else-is-3 : goal.returns-else-is-3
+pub returns-in_default : goal.returns-in_default
 unfolding kind_of
-returns-else-is-3 c = rw (sym c.if-is.ensures, sym c.if-is-2.ensures, sym c.if-is-3.ensures)
+returns-in_default c =
+    let word = c.args.word.now in
+    let text = c.as_name.result.now in
+    let same = c.as_name.ensures.ascii in
+    rw (
+      other word text (codes "instruction") same refl c.in_default.not-instruction,
+      other word text (codes "entry") same refl c.in_default.not-entry,
+      other word text (codes "sent") same refl c.in_default.not-sent,
+    )

@@ -1,30 +1,33 @@
-use Rattle.std.proofs.Common.{sym}
+use Rattle.std.proofs.Common.{codes, sym, refl, ap, arith, rules}
 use Rattle.commands.specs.Names.{packed_name_of}
+use Rattle.commands.proofs.Names.{the_name, other}
 use Rattle.commands.proofs.packed_command.PackedName.named.Goals as goal
 
-pub returns-then-is-2 : goal.returns-then-is-2
+pub returns-in-program : goal.returns-in-program
 unfolding packed_name_of
-returns-then-is-2 c = rw (sym c.if-is.ensures, sym c.if-is-2.ensures)
+returns-in-program c = ap packed_name_of (sym (the_name c.args.word.now c.as_name.result.now (codes "program") c.as_name.ensures.known (omega arith) c.in-program.is))
 
-pub returns-then-is-3 : goal.returns-then-is-3
+pub returns-in-text : goal.returns-in-text
 unfolding packed_name_of
-returns-then-is-3 c = rw (sym c.if-is.ensures, sym c.if-is-2.ensures, sym c.if-is-3.ensures)
+returns-in-text c = ap packed_name_of (sym (the_name c.args.word.now c.as_name.result.now (codes "program-bytes") c.as_name.ensures.known (omega arith) c.in-text.is))
 
-pub returns-then-is-4 : goal.returns-then-is-4
+pub returns-in-list : goal.returns-in-list
 unfolding packed_name_of
-returns-then-is-4 c =
-    rw (sym c.if-is.ensures, sym c.if-is-2.ensures, sym c.if-is-3.ensures, sym c.if-is-4.ensures)
+returns-in-list c = ap packed_name_of (sym (the_name c.args.word.now c.as_name.result.now (codes "list") c.as_name.ensures.known (omega arith) c.in-list.is))
 
-pub returns-in_err-named : goal.returns-in_err-named
+pub returns-in-image : goal.returns-in-image
 unfolding packed_name_of
-returns-in_err-named c =
-    rw (sym c.if-is.ensures, sym c.if-is-2.ensures, sym c.if-is-3.ensures, sym c.if-is-4.ensures, c.from_residual.ensures, sym c.in_err-named.ensures)
+returns-in-image c = ap packed_name_of (sym (the_name c.args.word.now c.as_name.result.now (codes "image") c.as_name.ensures.known (omega arith) c.in-image.is))
 
-pub returns-in_ok-named : goal.returns-in_ok-named
+pub returns-in_default : goal.returns-in_default
 unfolding packed_name_of
-returns-in_ok-named c =
-    rw (sym c.if-is.ensures, sym c.if-is-2.ensures, sym c.if-is-3.ensures, sym c.if-is-4.ensures, sym c.in_ok-named.ensures)
-
-pub returns-then-is : goal.returns-then-is
-unfolding packed_name_of
-returns-then-is c = rw (sym c.if-is.ensures)
+returns-in_default c =
+    let word = c.args.word.now in
+    let text = c.as_name.result.now in
+    let same = c.as_name.ensures.ascii in
+    rw (
+      other word text (codes "program") same refl c.in_default.not-program,
+      other word text (codes "program-bytes") same refl c.in_default.not-text,
+      other word text (codes "list") same refl c.in_default.not-list,
+      other word text (codes "image") same refl c.in_default.not-image,
+    ) (search rules)
