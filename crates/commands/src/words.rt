@@ -66,6 +66,7 @@ impl<'a> Words<'a> {
         self.next().ok_or(Reason::MissingWord)
     }
 
+    #[tactic(auto, unfolding(crate::specs::Words::number_of))]
     pub(crate) fn number(&mut self) -> Result<u32, Reason>
         ensures value { result ≡ number_of (left self.old) }
         ensures after { left self.new ≡ others (left self.old) }
@@ -83,6 +84,7 @@ impl<'a> Words<'a> {
     }
 
     // How many steps, turns, bytes or places a command asks for.
+    #[tactic(auto, unfolding(crate::specs::Words::times_of))]
     pub(crate) fn times(&mut self) -> Result<usize, Reason>
         ensures value { result ≡ times_of (left self.old) }
         ensures after { left self.new ≡ others (left self.old) }
@@ -94,6 +96,7 @@ impl<'a> Words<'a> {
         Ok(number as usize)
     }
 
+    #[tactic(auto, unfolding(crate::specs::Words::bytes_of))]
     pub(crate) fn bytes(&mut self, heap: Global) -> Result<Vec<u8>, ParseError>
         ensures value { Reads vec_items result (bytes_of (left self.old)) }
         ensures after { left self.new ≡ others (left self.old) }
@@ -125,6 +128,7 @@ impl<'a> Words<'a> {
     }
 
     // A place, and nothing after it.
+    #[tactic(auto, unfolding(crate::specs::Words::last_number_of))]
     pub(crate) fn last_place(mut self) -> Result<usize, Reason>
         ensures { result ≡ last_number_of (left self.entry) }
     {
@@ -133,6 +137,7 @@ impl<'a> Words<'a> {
     }
 
     // How many, and nothing after it.
+    #[tactic(auto, unfolding(crate::specs::Words::last_times_of))]
     pub(crate) fn last_times(mut self) -> Result<usize, Reason>
         ensures { result ≡ last_times_of (left self.entry) }
     {

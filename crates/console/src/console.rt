@@ -223,10 +223,5 @@ fn words_of(line: &[u8]) -> &[u8]
 fn without_newline(line: &[u8]) -> &[u8]
     ensures { result.now ≡ without_newline line.now }
 {
-    let len = line.len();
-    if len > 0 && line[len - 1] == b'\n' {
-        &line[..len - 1]
-    } else {
-        line
-    }
+    line.strip_suffix(b"\n").unwrap_or(line)
 }
