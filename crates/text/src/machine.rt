@@ -12,18 +12,21 @@ impl fmt::Display for Shown<Answer> {
     ghost output = { λ a. Some (answer_text a.0) };
 
     fn fmt<W: fmt::Write>(&self, f: &mut fmt::Formatter<W>) -> fmt::Result {
-        match self.0 {
-            Answer::Running => write!(f, "running"),
-            Answer::Waiting => write!(f, "waiting"),
-            Answer::Done => write!(f, "done"),
-            Answer::Committing => write!(f, "committing"),
-            Answer::Early => write!(f, "early"),
-            Answer::Full => write!(f, "full"),
-            Answer::Stopped => write!(f, "stopped"),
-            Answer::RolledBack => write!(f, "rolled back"),
-            Answer::Retried => write!(f, "retried"),
-            Answer::Faulted { fault, pc } => write!(f, "faulted {} at {}", fault.number(), pc),
-        }
+        let name = match self.0 {
+            Answer::Running => "running",
+            Answer::Waiting => "waiting",
+            Answer::Done => "done",
+            Answer::Committing => "committing",
+            Answer::Early => "early",
+            Answer::Full => "full",
+            Answer::Stopped => "stopped",
+            Answer::RolledBack => "rolled back",
+            Answer::Retried => "retried",
+            Answer::Faulted { fault, pc } => {
+                return write!(f, "faulted {} at {pc}", fault.number());
+            }
+        };
+        f.write_str(name)
     }
 }
 
@@ -32,15 +35,15 @@ impl fmt::Display for Shown<State> {
     ghost output = { λ s. Some (state_text s.0) };
 
     fn fmt<W: fmt::Write>(&self, f: &mut fmt::Formatter<W>) -> fmt::Result {
-        match self.0 {
-            State::Bypass => write!(f, "BYPASS"),
-            State::Transaction => write!(f, "TRANSACTION"),
-            State::Commit => write!(f, "COMMIT"),
-            State::Abort => write!(f, "ABORT"),
-            State::EarlyFlush => write!(f, "EARLY_FLUSH"),
-            State::EarlyCommit => write!(f, "EARLY_COMMIT"),
-            State::Stopped => write!(f, "STOPPED"),
-        }
+        f.write_str(match self.0 {
+            State::Bypass => "BYPASS",
+            State::Transaction => "TRANSACTION",
+            State::Commit => "COMMIT",
+            State::Abort => "ABORT",
+            State::EarlyFlush => "EARLY_FLUSH",
+            State::EarlyCommit => "EARLY_COMMIT",
+            State::Stopped => "STOPPED",
+        })
     }
 }
 
@@ -50,9 +53,9 @@ impl fmt::Display for Shown<Token> {
 
     fn fmt<W: fmt::Write>(&self, f: &mut fmt::Formatter<W>) -> fmt::Result {
         match self.0 {
-            Token::Free => write!(f, "free"),
-            Token::Core(i) => write!(f, "core {}", i),
-            Token::Host => write!(f, "host"),
+            Token::Free => f.write_str("free"),
+            Token::Core(i) => write!(f, "core {i}"),
+            Token::Host => f.write_str("host"),
         }
     }
 }

@@ -16,8 +16,7 @@ impl fmt::Display for Shown<Register> {
     ghost output = { λ r. Some (register_text r.0) };
 
     fn fmt<W: fmt::Write>(&self, f: &mut fmt::Formatter<W>) -> fmt::Result {
-        let n = self.0.number();
-        write!(f, "R{n}")
+        write!(f, "R{}", self.0.number())
     }
 }
 
@@ -27,7 +26,7 @@ impl fmt::Display for Shown<Instruction> {
 
     fn fmt<W: fmt::Write>(&self, f: &mut fmt::Formatter<W>) -> fmt::Result {
         match self.0 {
-            Instruction::Halt => write!(f, "HALT"),
+            Instruction::Halt => f.write_str("HALT"),
             Instruction::Set { d, n } => write!(f, "SET {} {}", Shown(d), n.value()),
             Instruction::Add { d, a, b } => write!(f, "ADD {} {} {}", Shown(d), Shown(a), Shown(b)),
             Instruction::Sub { d, a, b } => write!(f, "SUB {} {} {}", Shown(d), Shown(a), Shown(b)),
@@ -61,10 +60,10 @@ impl fmt::Display for Shown<Instruction> {
                 Shown(b),
                 n.value()
             ),
-            Instruction::Begin => write!(f, "BEGIN"),
-            Instruction::End => write!(f, "END"),
-            Instruction::Retry => write!(f, "RETRY"),
-            Instruction::Early => write!(f, "EARLY"),
+            Instruction::Begin => f.write_str("BEGIN"),
+            Instruction::End => f.write_str("END"),
+            Instruction::Retry => f.write_str("RETRY"),
+            Instruction::Early => f.write_str("EARLY"),
             Instruction::Out { a, channel } => write!(f, "OUT {} {}", Shown(a), channel.value()),
         }
     }
