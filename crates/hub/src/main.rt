@@ -14,10 +14,10 @@ const LONGEST: usize = 4096;
 
 // Reports a scenario that could not be read, or not to its end.
 fn report(rt: &HostRuntime, name: &str, end: io::Result<()>) -> io::Result<()> {
-    match end {
-        Ok(()) => Ok(()),
-        Err(e) => eprintln!(rt; "hub: {name}: {e}"),
+    if let Err(e) = end {
+        eprintln!(rt; "hub: {name}: {e}")?;
     }
+    Ok(())
 }
 
 // Plays a file. One that cannot be read is reported.
@@ -37,7 +37,7 @@ fn play_file(rt: &HostRuntime, name: &[u8]) -> io::Result<()> {
 fn play_argument(rt: &HostRuntime, i: usize) -> io::Result<bool> {
     let mut name = [0u8; LONGEST];
     match rt.arg(i, &mut name) {
-        Ok(len) => play_file(rt, &name[0..len])?,
+        Ok(len) => play_file(rt, &name[..len])?,
         Err(FillError::TooLong) => eprintln!(rt; "hub: argument {i}: the name is too long")?,
         Err(FillError::NotPresent) => return Ok(false),
     }

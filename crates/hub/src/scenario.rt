@@ -1,6 +1,7 @@
 // A scenario that is read line by line, and what it prints.
 use answering::answering::tell_answer;
 use buffers::buffers::{MemoryBuffer, OutletBuffer};
+use commands::machine::EngineCommand;
 use commands::reason::Reason;
 use console::console::{Console, Next, Order, write_reason, write_told};
 use desk::desk::Desk;
@@ -13,7 +14,6 @@ use outlet::store::StoreOutlet;
 use outlet::waiting::Outlet;
 use render::line::write_line;
 use render::tell::tell_made;
-use std::alloc::Global;
 use std::io;
 use std::io::{BufRead, BufReader, Read, Write};
 
@@ -62,12 +62,12 @@ impl<'a, R: Read + Drop> Scenario<'a, R> {
             out: Vec::new(heap),
             end: Ok(()),
         };
-        let mut order = scenario.play_without_engine(heap)?;
+        let mut order = scenario.play_without_engine()?;
         for _ in 0..u64::MAX {
             let Some(made) = order else {
                 break;
             };
-            order = scenario.play_order(heap, made)?;
+            order = scenario.play_order(made)?;
         }
         scenario.write_out()?;
         Ok(scenario.end)
@@ -95,26 +95,35 @@ impl<'a, R: Read + Drop> Scenario<'a, R> {
         }
     }
 
-    // Plays lines until one makes an engine, which is answered, or the last.
-    fn play_without_engine(&mut self, heap: Global) -> io::Result<Option<Order>> {
+    // Plays lines until one makes an engine, or the last. `answer` answers a command to an engine, by its line.
+    fn play_lines<F>(&mut self, mut answer: F) -> io::Result<Option<Order>>
+    where
+        F: FnMut(EngineCommand, &[u8], &mut Vec<u8>) -> io::Result<()>,
+        requires { F.IsAlwaysCallable answer }
+    {
         for _ in 0..u64::MAX {
             if !self.next_line()? {
                 break;
             }
-            match self
+            let next = self
                 .console
-                .play_line(heap, self.line.as_slice(), &mut self.out)?
-            {
+                .play_line(self.rt.alloc(), self.line.as_slice(), &mut self.out)?;
+            match next {
                 Next::Line => {}
-                Next::Engine(_) => write_reason(&mut self.out, Reason::NoEngine)?,
+                Next::Engine(command) => answer(command, self.line.as_slice(), &mut self.out)?,
                 Next::Make(order) => return Ok(Some(order)),
             }
         }
         Ok(None)
     }
 
-    // The same on a new engine. Memory and outlet borrow their buffers, which are let go with it.
-    fn play_order(&mut self, heap: Global, order: Order) -> io::Result<Option<Order>> {
+    // Plays lines before there is an engine.
+    fn play_without_engine(&mut self) -> io::Result<Option<Order>> {
+        self.play_lines(|_command, _line, out| Ok(write_reason(out, Reason::NoEngine)?))
+    }
+
+    // Plays lines on a new engine. Memory and outlet borrow their buffers, which are let go with it.
+    fn play_order(&mut self, order: Order) -> io::Result<Option<Order>> {
         let Order {
             program,
             settings: read,
@@ -122,40 +131,35 @@ impl<'a, R: Read + Drop> Scenario<'a, R> {
             outlet,
         } = order;
         let settings = Settings {
-            program,
+            program: &program,
             places: read.places.as_slice(),
             lines: read.lines,
         };
         match memory {
             MemoryBuffer::Words(mut words) => {
                 let memory = WordMemory::new(words.as_mut_slice());
-                self.play_memory(heap, settings, memory, outlet)
+                self.play_memory(settings, memory, outlet)
             }
             MemoryBuffer::Bytes(mut bytes) => {
                 let memory = ByteMemory::new(bytes.as_mut_slice());
-                self.play_memory(heap, settings, memory, outlet)
+                self.play_memory(settings, memory, outlet)
             }
         }
     }
 
     fn play_memory<M: Memory + Drop>(
         &mut self,
-        heap: Global,
         settings: Settings<'_>,
         memory: M,
         outlet: OutletBuffer,
     ) -> io::Result<Option<Order>> {
         let checked = settings.check(memory.len());
-        let told = tell_made(heap, checked, settings.places.len())?;
+        let told = tell_made(self.rt.alloc(), checked, settings.places.len())?;
         write_line(&mut self.out, told.as_str())?;
         match outlet {
-            OutletBuffer::Store => {
-                let outlet = StoreOutlet::new();
-                self.play_desk(heap, Desk::make(settings, memory, outlet))
-            }
+            OutletBuffer::Store => self.play_outlet(settings, memory, StoreOutlet::new()),
             OutletBuffer::Bytes(mut bytes) => {
-                let buffer = bytes.as_mut_slice();
-                self.play_over::<M, OverBytes>(heap, settings, memory, buffer)
+                self.play_over::<M, OverBytes>(settings, memory, bytes.as_mut_slice())
             }
         }
     }
@@ -163,22 +167,22 @@ impl<'a, R: Read + Drop> Scenario<'a, R> {
     // The same with an outlet over a buffer.
     fn play_over<'b, M: Memory + Drop, V: Over<'b>>(
         &mut self,
-        heap: Global,
         settings: Settings<'_>,
         memory: M,
         buffer: &'b mut [u8],
     ) -> io::Result<Option<Order>> {
-        let outlet = V::over(buffer);
-        self.play_desk(heap, Desk::make(settings, memory, outlet))
+        self.play_outlet(settings, memory, V::over(buffer))
     }
 
     // Plays lines on an engine. Whatever ends that, the token is given back before the engine is let go.
-    fn play_desk<M: Memory + Drop, O: Outlet + Drop>(
+    fn play_outlet<M: Memory + Drop, O: Outlet + Drop>(
         &mut self,
-        heap: Global,
-        mut desk: Desk<M, O>,
+        settings: Settings<'_>,
+        memory: M,
+        outlet: O,
     ) -> io::Result<Option<Order>> {
-        let next = self.play_with_engine(heap, &mut desk);
+        let mut desk = Desk::make(settings, memory, outlet);
+        let next = self.play_with_engine(&mut desk);
         let held = desk.close();
         let order = next?;
         if held && order.is_none() {
@@ -187,28 +191,15 @@ impl<'a, R: Read + Drop> Scenario<'a, R> {
         Ok(order)
     }
 
-    // Plays lines until one makes another engine, or the last.
+    // Plays lines, with the answers of an engine.
     fn play_with_engine<M: Memory, O: Outlet>(
         &mut self,
-        heap: Global,
         desk: &mut Desk<M, O>,
     ) -> io::Result<Option<Order>> {
-        for _ in 0..u64::MAX {
-            if !self.next_line()? {
-                break;
-            }
-            match self
-                .console
-                .play_line(heap, self.line.as_slice(), &mut self.out)?
-            {
-                Next::Line => {}
-                Next::Engine(command) => {
-                    let told = tell_answer(heap, desk, command)?;
-                    write_told(&mut self.out, self.line.as_slice(), told.as_str())?;
-                }
-                Next::Make(order) => return Ok(Some(order)),
-            }
-        }
-        Ok(None)
+        let heap = self.rt.alloc();
+        self.play_lines(|command, line, out| {
+            let told = tell_answer(heap, desk, command)?;
+            Ok(write_told(out, line, told.as_str())?)
+        })
     }
 }
