@@ -3,7 +3,6 @@
 use Rattle.std.specs.Prelude.{◌≡◌, ℕ, ◌⊎◌, List, [], ◌++◌, replicate, Some, None, Ok, Err, codes, decimal, Option}
 use Rattle.std.specs.Option.{option_map, unwrap_or}
 use Rattle.program.specs.declared.program.Program.{Program}
-use Rattle.program.specs.Programs.{instructions_of}
 use Rattle.buffers.specs.declared.buffers.MemoryBuffer.{MemoryBuffer}
 use Rattle.buffers.specs.declared.buffers.OutletBuffer.TheVariants.{Store}
 use Rattle.commands.specs.declared.command.Command.{Command}
@@ -45,7 +44,7 @@ Ordered (Some p) c text s printed next after =
 -- what a command comes to
 abbrev pub Answered : Console → List ℕ → Command → List ℕ → Next → Console → Type 0
 Answered c text (Packed k) printed next after =
-    (printed ≡ head_text text ++ packed_lines k (option_map instructions_of c.program)) × (next ≡ Line) × (option_map instructions_of after.program ≡ program_after k (option_map instructions_of c.program)) × (after.memory ≡ c.memory) × (after.outlet ≡ c.outlet)
+    (printed ≡ head_text text ++ packed_lines k c.program) × (next ≡ Line) × (after.program ≡ program_after k c.program) × (after.memory ≡ c.memory) × (after.outlet ≡ c.outlet)
 Answered c text (Memory b) printed next after =
     (printed ≡ told_line text (codes "words " ++ decimal (words_in (memory_said b)))) × (next ≡ Line) × (after ≡ record { program = c.program; memory = Some b; outlet = c.outlet })
 Answered c text (Outlet b) printed next after =

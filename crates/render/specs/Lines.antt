@@ -16,12 +16,16 @@ abbrev pub ended : List ℕ → List ℕ
 ended text = text ++ (10 ∷ [])
 
 -- the line of an instruction: two spaces, its number, two spaces, its text
-abbrev pub instruction_line : List Instruction → ℕ → List ℕ
-instruction_line is place = ended (codes "  " ++ (decimal place ++ (codes "  " ++ instruction_text (slice_index_or is place Halt))))
+abbrev pub instruction_line : ℕ → Instruction → List ℕ
+instruction_line place instruction = ended (codes "  " ++ (decimal place ++ (codes "  " ++ instruction_text instruction)))
+
+-- the line of the instruction at a place
+abbrev pub line_at : List Instruction → ℕ → List ℕ
+line_at is place = instruction_line place (slice_index_or is place Halt)
 
 -- the lines of a program: how many instructions it has, and a line for each
 abbrev pub program_lines : List Instruction → List ℕ
-program_lines is = ended (codes "instructions " ++ decimal (length is)) ++ flat_map (instruction_line is) (range_with_len 0 (length is))
+program_lines is = ended (codes "instructions " ++ decimal (length is)) ++ flat_map (line_at is) (range_with_len 0 (length is))
 
 -- the lines of the accepted program
 abbrev pub listed : Option (List Instruction) → List ℕ

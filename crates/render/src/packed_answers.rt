@@ -1,7 +1,5 @@
 // What is answered to the commands on programs and packed words.
 ghost use Rattle.std.specs.Prelude.{◌≡◌, ◌++◌, IfOk, string_bytes, OnOk};
-ghost use Rattle.std.specs.Option.{option_map};
-ghost use Rattle.program.specs.Programs.{instructions_of};
 ghost use Rattle.program.specs.Reading.{read_program};
 ghost use Rattle.render.specs.Lines.{instruction_line, listed, entry_line, image_lines, packed_lines, program_after};
 ghost use Rattle.render.specs.Told.{count_read, after_reading, program_told};
@@ -12,6 +10,7 @@ use answers::refusal::ProgramRefusal;
 use commands::kind::Kind;
 use commands::packed_command::PackedCommand;
 use digits::refused::RefusedAt;
+use formats::instruction::Instruction;
 use program::program::Program;
 use std::alloc::{AllocError, Global};
 use text::show::Shown;
@@ -23,8 +22,8 @@ pub fn answer(
     program: &mut Option<Program>,
     out: &mut Vec<u8>,
 ) -> Result<(), AllocError>
-    ensures lines { OnOk result (out.new.items ≡ out.old.items ++ packed_lines command (option_map instructions_of program.old)) }
-    ensures after { option_map instructions_of program.new ≡ program_after command (option_map instructions_of program.old) }
+    ensures lines { OnOk result (out.new.items ≡ out.old.items ++ packed_lines command program.old) }
+    ensures after { program.new ≡ program_after command program.old }
 {
     match command {
         PackedCommand::Program(bytes) => {
@@ -43,7 +42,7 @@ pub fn answer(
 // Reads a program, and answers how many instructions it has. A refused one leaves that which was accepted before.
 fn accept(bytes: &[u8], program: &mut Option<Program>) -> Result<usize, ProgramRefusal>
     ensures value { result ≡ count_read (read_program bytes.now) }
-    ensures after { option_map instructions_of program.new ≡ after_reading (read_program bytes.now) (option_map instructions_of program.old) }
+    ensures after { program.new ≡ after_reading (read_program bytes.now) program.old }
 {
     let accepted = Program::read(bytes)?;
     let count = accepted.len();
@@ -69,16 +68,16 @@ fn tell_program(heap: Global, read: Result<usize, ProgramRefusal>) -> Result<Str
 
 // The accepted program: how many instructions it has, and a line for each.
 fn list(heap: Global, program: &Option<Program>, out: &mut Vec<u8>) -> Result<(), AllocError>
-    ensures { OnOk result (out.new.items ≡ out.old.items ++ listed (option_map instructions_of program.now)) }
+    ensures { OnOk result (out.new.items ≡ out.old.items ++ listed program.now) }
 {
     let Some(program) = program else {
         return write_line(out, "no program");
     };
-    let count = program.len();
-    let head = format!(in heap; "instructions {count}")?;
+    let instructions = program.as_slice();
+    let head = format!(in heap; "instructions {}", instructions.len())?;
     write_line(out, head.as_str())?;
-    for place in 0..count {
-        list_one(heap, program, place, out)?;
+    for (place, instruction) in instructions.iter().enumerate() {
+        list_one(heap, place, *instruction, out)?;
     }
     Ok(())
 }
@@ -86,13 +85,13 @@ fn list(heap: Global, program: &Option<Program>, out: &mut Vec<u8>) -> Result<()
 // The line of one instruction.
 fn list_one(
     heap: Global,
-    program: &Program,
     place: usize,
+    instruction: Instruction,
     out: &mut Vec<u8>,
 ) -> Result<(), AllocError>
-    ensures { OnOk result (out.new.items ≡ out.old.items ++ instruction_line (instructions_of program.now) place) }
+    ensures { OnOk result (out.new.items ≡ out.old.items ++ instruction_line place instruction) }
 {
-    let line = format!(in heap; "  {place}  {}", Shown(program.at(place)))?;
+    let line = format!(in heap; "  {place}  {}", Shown(instruction))?;
     write_line(out, line.as_str())
 }
 

@@ -1,21 +1,26 @@
-use Rattle.std.proofs.Common.{◌≡◌, ℕ, List, ◌++◌, length, vec_items, codes, decimal, sym, ap, ◌∙◌, arith}
-use Rattle.std.specs.Option.{option_map}
-use Rattle.program.specs.Programs.{instructions_of}
-use Rattle.render.specs.Lines.{ended, instruction_line, listed}
+use Rattle.std.proofs.Common.{◌≡◌, ℕ, List, ◌++◌, length, Some, vec_items, codes, decimal, sym, ap, ◌∙◌, arith}
+use Rattle.std.proofs.lemmas.List.{get_or_default}
+use Rattle.formats.specs.declared.instruction.Instruction.TheVariants.{Halt}
+use Rattle.render.specs.Lines.{ended, instruction_line, line_at, listed}
 use Rattle.render.proofs.Gathered.{line_more, gathered}
 use Rattle.render.proofs.packed_answers.list.Goals as goal
 
 pub loop-place-preserved : goal.loop-place-preserved
 loop-place-preserved c =
-    let f = instruction_line (instructions_of c.in-Some.program) in
-    c.in_ok-list_one.ensures ∙ ap (λ (l : List ℕ). l ++ f c.loop-place.place) c.loop-place.invariant ∙ line_more f (vec_items c.write_line-2.new.out) c.loop-place.place
+    let is = c.as_slice-instructions.result.now in
+    let f = line_at is in
+    let place = c.loop-place.place in
+    let item = c.index-instructions-place.result in
+    let here = c.index-instructions-place.is ∙ get_or_default is place item Halt (omega arith) in
+    let wrote : vec_items c.list_one.new.out ≡ vec_items c.loop-place.out ++ instruction_line place item = c.in_ok-list_one.ensures in
+    wrote ∙ ap (λ i. vec_items c.loop-place.out ++ instruction_line place i) here ∙ ap (λ (l : List ℕ). l ++ f c.loop-place.place) c.loop-place.invariant ∙ line_more f (vec_items c.write_line-2.new.out) c.loop-place.place
 
 pub returns : goal.returns
 returns c =
-    let is = instructions_of c.in-Some.program in
+    let is = c.as_slice-instructions.result.now in
     let before = vec_items c.args.out.now in
-    let text = c.as_str.ensures.value ∙ c.in_ok-head.ensures.ok ∙ ap (λ (n : ℕ). codes "instructions " ++ decimal n) c.len-count.ensures in
-    let first = c.in_ok-write_line.ensures ∙ ap (λ (l : List ℕ). before ++ ended l) text in
-    let same : c.loop-place.place ≡ length is = omega (arith, c.len-count.ensures) in
-    gathered (instruction_line is) before (ended (codes "instructions " ++ decimal (length is))) (vec_items c.write_line-2.new.out) (vec_items c.loop-place.out) c.loop-place.place (length is) c.loop-place.invariant first same
-    ∙ ap (λ o. before ++ listed (option_map instructions_of o)) (sym c.in-Some.is)
+    let first = c.in_ok-write_line.ensures ∙ ap (λ (l : List ℕ). before ++ ended l) (c.as_str.ensures.value ∙ c.in_ok-head.ensures.ok) in
+    let same : c.loop-place.place ≡ length is = omega arith in
+    gathered (line_at is) before (ended (codes "instructions " ++ decimal (length is))) (vec_items c.write_line-2.new.out) (vec_items c.loop-place.out) c.loop-place.place (length is) c.loop-place.invariant first same
+    ∙ ap (λ is. before ++ listed (Some is)) c.as_slice-instructions.ensures.value
+    ∙ ap (λ o. before ++ listed o) (sym c.in-Some.is)

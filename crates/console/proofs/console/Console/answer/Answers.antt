@@ -1,6 +1,4 @@
 use Rattle.std.proofs.Common.{ℕ, List, ◌++◌, Some, vec_items, codes, decimal, sym, refl, ap, ◌∙◌, subst, append_assoc}
-use Rattle.std.specs.Option.{option_map}
-use Rattle.program.specs.Programs.{instructions_of}
 use Rattle.commands.specs.declared.command.Command.{Command}
 use Rattle.render.specs.Lines.{packed_lines}
 use Rattle.console.specs.declared.console.Console.{Console}
@@ -13,7 +11,7 @@ pub returns-in_ok-answer-in-Packed : goal.returns-in_ok-answer-in-Packed
 returns-in_ok-answer-in-Packed c =
     let s = c.args.self.now in
     let text = c.args.text.now in
-    let lines = packed_lines c.in-Packed.command (option_map instructions_of s.program) in
+    let lines = packed_lines c.in-Packed.command s.program in
     let after : Console = record { program = c.answer.new.program; memory = s.memory; outlet = s.outlet } in
     let Comes : Command → Type 0 = λ k. Answered s text k (head_text text ++ lines) Line after in
     let written =
