@@ -1,16 +1,10 @@
--- Words as numbers, word by word; and a refusal that stays.
+-- Words as numbers, word by word.
 -- Assumes nothing.
-use Rattle.std.proofs.Common.{◌≡◌, ℕ, List, [], ◌∷◌, ◌++◌, Some, None, Ok, Err, Option, Result, sym, refl, ap, ◌∙◌, append_assoc, append-nil, arith}
+use Rattle.std.proofs.Common.{◌≡◌, ℕ, List, [], ◌∷◌, ◌++◌, Some, None, Ok, Err, Result, sym, refl, ap, ◌∙◌, append_assoc, append-nil, arith}
 use Rattle.std.specs.Result.{result_map_both}
-use Rattle.std.specs.Option.{option_map as mapped_some}
 use Rattle.tokens.specs.Numbers.{read_number}
 use Rattle.commands.specs.declared.reason.Reason.{Reason}
-use Rattle.commands.specs.declared.reason.ParseError.{ParseError}
-use Rattle.commands.specs.declared.reason.ParseError.TheVariants.{NotUnderstood, NoMemory}
-use Rattle.commands.specs.declared.command.Command.{Command}
-use Rattle.commands.specs.Parsing.{named_of, line_of}
-use Rattle.commands.specs.Said.{said}
-use Rattle.commands.specs.Reasons.{Reads, number_reason}
+use Rattle.commands.specs.Reasons.{number_reason}
 use Rattle.commands.specs.Words.{first, others, then, as_number, numbers_of}
 
 -- the words are the one that was taken and those that are left
@@ -35,16 +29,6 @@ pub counted : (ws rest : List (List ℕ)) (word : List ℕ) (n : ℕ) (xs : List
 unfolding numbers_of
 counted ws rest word n xs e f =
     ap (λ v. then (numbers_of v) (λ ns. Ok (xs ++ ns))) e ∙ ap (λ r. then (then (result_map_both (λ m. m) number_reason r) (λ m. then (numbers_of rest) (λ ns. Ok (m ∷ ns)))) (λ ns. Ok (xs ++ ns))) (sym f) ∙ regroup n xs (numbers_of rest)
-
--- a refusal stays, whatever comes after
-pub stays : {A B C D : Type 0} (view : A → B) (other : C → D) (next : B → Result D Reason) (error : ParseError) (wanted : Result B Reason) → Reads view (Err error) wanted → Reads other (Err error) (then wanted next)
-stays view other next (NotUnderstood reason) wanted h = ap (λ r. then r next) h
-stays view other next NoMemory wanted h = tt
-
--- so it is what a line says
-pub line_stays : (r : Result (Option Command) ParseError) (y error : ParseError) (ws rest : List (List ℕ)) (word : List ℕ) → r ≡ Err y → y ≡ error → ws ≡ word ∷ rest → Reads said (Err error) (named_of word rest) → Reads (mapped_some said) r (line_of ws)
-line_stays r y error ws rest word is same split h =
-    rw (is, same, split) (stays said (mapped_some said) (λ s. Ok (Some s)) error (named_of word rest) h)
 
 -- no word, no number
 pub none_counted : (ws : List (List ℕ)) (xs : List ℕ) → None ≡ first ws → Ok xs ≡ then (numbers_of ws) (λ ns. Ok (xs ++ ns))

@@ -62,12 +62,12 @@ impl Command {
             "memory" => Ok(Command::Memory(memory_buffer(heap, words)?)),
             "outlet" => Ok(Command::Outlet(outlet_buffer(heap, words)?)),
             "make" => Ok(Command::Make(Settings::parse(heap, words)?)),
-            _ => Command::of_two(heap, word, words),
+            _ => Command::packed_or_engine(heap, word, words),
         }
     }
 
     // The same for a command on programs and packed words, else one to an engine.
-    fn of_two(heap: Global, word: &[u8], words: Words) -> Result<Command, ParseError>
+    fn packed_or_engine(heap: Global, word: &[u8], words: Words) -> Result<Command, ParseError>
         ensures { Reads said result (packed_if (packed_name_of word.now) word.now (left words.entry)) }
     {
         if let Some(name) = PackedName::named(word) {

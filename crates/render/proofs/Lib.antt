@@ -1,4 +1,3 @@
-pub mod Answered
 pub mod Gathered
 pub mod Packing
 pub mod Spaced

@@ -1,4 +1,4 @@
-use Rattle.std.proofs.Common.{ℕ, List, IfOk, Err, vec_items, Option, Result, refl, ap, ◌∙◌, subst, inl, inr}
+use Rattle.std.proofs.Common.{ℕ, List, IfOk, Err, vec_items, Option, Result, refl, subst, inr}
 use Rattle.std.specs.Option.{option_map}
 use Rattle.std.proofs.lemmas.Result.{IfOk-weaker}
 use Rattle.commands.specs.declared.command.Command.{Command}
@@ -9,8 +9,8 @@ use Rattle.commands.specs.Reasons.{Reads}
 use Rattle.commands.specs.Said.{said}
 use Rattle.console.specs.declared.console.Console.{Console}
 use Rattle.console.specs.declared.console.Next.{Next}
-use Rattle.console.specs.Printed.{words_of, reason_line}
-use Rattle.console.specs.Played.{Appends, Complied, Explained, Played}
+use Rattle.console.specs.Printed.{reason_line}
+use Rattle.console.specs.Played.{Appends, Explained, Played}
 use Rattle.console.proofs.console.Console.play_line.Goals as goal
 
 -- a line that gives no command is explained, and leaves everything as it was
@@ -27,20 +27,6 @@ explained_played s text before after NoMemory r why told =
     (λ next. Appends before after (λ printed. Played s text printed next s))
     (λ next none. absurd none)
     told
-
-pub returns-in-Ok : goal.returns-in-Ok
-returns-in-Ok c =
-    let s = c.args.self.now in
-    let words = words_of c.args.line.now in
-    let command = c.in-Ok.command in
-    let before = vec_items c.args.out.now in
-    let after = vec_items c.comply.new.out in
-    let Comes : List ℕ → List ℕ → Next → Type 0 = λ text printed next. Complied s text command printed next c.comply.new.self in
-    IfOk-weaker c.comply.result
-    (λ next. Appends before after (λ printed. Comes c.words_of-text.result.now printed next))
-    (λ next. Appends before after (λ printed. Played s words printed next c.comply.new.self))
-    (λ next a. let At : List ℕ → Type 0 = λ text. Comes text a.0 next in (a.0, a.1, inl (command, c.in-Ok.ensures ∙ ap command_of c.words_of-text.ensures, subst At c.words_of-text.ensures a.2)))
-    c.comply.ensures
 
 pub returns-in-Err : goal.returns-in-Err
 returns-in-Err c =
