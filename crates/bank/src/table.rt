@@ -13,14 +13,6 @@ pub struct Table {
     pub count: usize,
 }
 
-// What stands where no core is in use.
-fn unused() -> Core {
-    match Core::at(0) {
-        Some(core) => core,
-        None => unreachable(),
-    }
-}
-
 impl Table {
     // A table with no core in use.
     pub fn empty() -> Table
@@ -29,7 +21,7 @@ impl Table {
         ensures sized { length result.cores ≡ 8 }
     {
         Table {
-            cores: array::from_fn(|_| unused()),
+            cores: array::from_fn(|_| Core::at(0).unwrap()),
             count: 0,
         }
     }

@@ -1,6 +1,7 @@
 // Adding to the record, looking at it and emptying it.
-ghost use Rattle.std.specs.Prelude.{◌≡◌, ◌≤◌, [], length};
+ghost use Rattle.std.specs.Prelude.{◌≡◌, ◌≤◌, [], map, length};
 ghost use Rattle.model.specs.Calls.{entry_in};
+ghost use Rattle.cores.specs.Units.{turn_of};
 ghost use Rattle.bank.specs.Logs.{recorded, as_turn};
 
 use super::Log;
@@ -13,16 +14,10 @@ impl Log {
     pub fn new() -> Log
         ensures { result ≡ [] }
     {
-        let Some(core) = CoreNumber::new(0) else {
-            unreachable();
-        };
-        let Some(count) = UnitCount::new(0) else {
-            unreachable();
-        };
         let unused = RecordEntry {
-            core,
+            core: CoreNumber::new(0).unwrap(),
             mark: Mark::Completed,
-            count,
+            count: UnitCount::new(0).unwrap(),
         };
         Log {
             entries: [unused; 1024],
@@ -30,13 +25,20 @@ impl Log {
         }
     }
 
+    // The entries, oldest first.
+    fn as_slice(&self) -> &[RecordEntry]
+        ensures value { map turn_of result.now ≡ self.now }
+        ensures few { length result.now ≤ 1024 }
+    {
+        &self.entries[..self.len]
+    }
+
     // How many entries it has, at most 1,024.
     pub fn len(&self) -> usize
         ensures value { result ≡ length self.now }
         ensures bound { result ≤ 1024 }
     {
-        let filled = self.len;
-        filled
+        self.as_slice().len()
     }
 
     // Adds an entry, if there is one and room for it.

@@ -30,10 +30,7 @@ fn unit_count(count: u32) -> UnitCount
     requires { count ≤ 4096 }
     ensures { result.value ≡ count }
 {
-    match UnitCount::new(count) {
-        Some(count) => count,
-        None => unreachable(),
-    }
+    UnitCount::new(count).unwrap()
 }
 
 impl Core {
