@@ -11,7 +11,7 @@ use outlet::waiting::Outlet;
 use render::tell::tell_moved;
 use std::alloc::{AllocError, Global};
 
-// One move.
+// One move. A match and no closure: a text says which core moves.
 pub(crate) fn advance<M: Memory, O: Outlet>(
     desk: &mut Desk<M, O>,
     which: Move,
@@ -42,6 +42,7 @@ pub(crate) fn repeat<M: Memory, O: Outlet>(
     ensures answer { result ≡ (repeated desk.old which times).answer }
 {
     let mut last = None;
+    // How many were called is part of the answer.
     for called in 0..times {
         let answer = advance(desk, which);
         last = Some(answer);

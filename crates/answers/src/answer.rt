@@ -44,7 +44,7 @@ pub enum Answer {
 }
 
 impl Answer {
-    // The number by which the answer is reported.
+    // The number by which the answer is reported. A match: a case that carries values has no number of its own.
     pub fn number(self) -> u8
         ensures { result ≡ answer_number self }
     {

@@ -3,7 +3,7 @@ ghost use Rattle.std.specs.Prelude.{◌≡◌, ℕ};
 ghost use Rattle.answers.specs.Refusals.{instruction_number, entry_number, program_number, list_number, placed_number, outside_list_number, outside_memory_number, nothing_waits_number, placed_fault, program_refusal};
 ghost use Rattle.answers.specs.declared.refusal.ListRefusal.TheVariants.{Entry};
 
-// The questions that one call each asks.
+// The questions of refusals that are structs without cases, which have no number of their own.
 const INSIDE_MEMORY: u8 = 14;
 
 const ENTRY_WAITS: u8 = 15;
@@ -98,6 +98,7 @@ impl Refusal for EntryFault {
     }
 }
 
+// A match: a case that carries values has no number of its own.
 impl Refusal for ProgramFault {
     ghost number = { program_number };
 

@@ -99,7 +99,8 @@ fn result_code(res: Result<usize, PlayRefusal>) -> u64
     }
 }
 
-// The same for C, with the answer as one number. Crate bench_c exports it.
+// The same for C, with the answer as one number. Crate bench_c exports it: one crate is built for Rust or for C, and tests need
+// the one for Rust. Parameters as C hands them in.
 pub fn hub_play(
     program: &[u8],
     settings: &[u8],

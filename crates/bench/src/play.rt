@@ -49,6 +49,7 @@ pub fn play_packed<M: Memory, O: Outlet>(
     let mut desk = Desk::make(settings, memory, outlet);
     let (words, _) = calls.as_chunks::<4>();
     let count = words.len().min(answers.len() / 8);
+    // Answers by index: nothing is known of bytes afterwards that were lent out chunk by chunk.
     for (i, word) in words[..count].iter().enumerate() {
         let at = 8 * i;
         let bytes = answer(&mut desk, u32::from_be_bytes(*word));

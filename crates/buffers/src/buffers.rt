@@ -14,7 +14,7 @@ pub enum MemoryBuffer {
     Bytes(Vec<u8>),
 }
 
-// A buffer for an outlet, which the store does not need.
+// A buffer for an outlet, which the store does not need. No Option: both forms have their name.
 #[derive(Drop)]
 pub enum OutletBuffer {
     Store,

@@ -14,7 +14,7 @@ pub(crate) fn low<const LIMIT: u32>(number: u32) -> Below<LIMIT>
     Below::new(number % LIMIT).unwrap()
 }
 
-// The register of a three-bit field.
+// The register of a three-bit field. No TryFrom: there is no field that names none.
 pub(crate) fn register_of(field: u32) -> Register
     ensures { result ≡ register_at field }
 {

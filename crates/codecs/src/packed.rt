@@ -16,7 +16,7 @@ pub trait PackedEntry: Sized {
 
     ghost unpacked: { List ℕ → Result Self Self.Fault };
 
-    // BYTES, for generic code.
+    // BYTES, for generic code: there each reading of a trait's constant counts as another number, and no clause can name it.
     fn size() -> usize
         ensures { result ≡ width };
 

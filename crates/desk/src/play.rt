@@ -28,6 +28,7 @@ pub fn play<M: Memory, O: Outlet>(
 {
     let mut desk = Desk::make(settings, memory, outlet);
     let count = calls.len().min(replies.len());
+    // Replies by index: nothing is known of a list afterwards that was lent out item by item beside another.
     for (i, call) in calls[..count].iter().enumerate() {
         replies[i] = desk.perform(*call);
     }

@@ -49,6 +49,7 @@ fn main(rt: HostRuntime) -> io::Result<()> {
         let end = Scenario::play(&rt, rt.stdin())?;
         return report(&rt, "standard input", end);
     }
+    // By number: the library's list of all arguments refuses them all where one is no UTF-8.
     for i in 2..usize::MAX {
         if !play_argument(&rt, i)? {
             break;

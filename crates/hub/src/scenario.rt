@@ -20,7 +20,7 @@ use std::io::{BufRead, BufReader, Read, Write};
 // Output is written at the latest when this much has come together.
 const ENOUGH: usize = 65536;
 
-// A form of outlet that stands on bytes.
+// A form of outlet that stands on bytes. The checker covers no call that hands one to generic code, so generic code makes it.
 trait Over<'b> {
     type Form: Outlet + Drop;
 

@@ -8,6 +8,7 @@ use answers::refusal::OutsideMemory;
 // The most words that a memory has.
 pub const MOST_WORDS: usize = 65_536;
 
+// The two forms are written each for itself, since a word is one element of the one and four bytes of the other.
 // `words m` is the list of words that the memory m means, at most 65,536.
 // `beside m` is what m stands on beside them: its handed-in buffer, and what of that is no word of m.
 pub trait Memory {

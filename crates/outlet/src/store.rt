@@ -12,6 +12,7 @@ use formats::entry::SentEntry;
 // How many entries the store has room for.
 const PLACES: usize = 64;
 
+// A fixed array: the store allocates nothing.
 #[derive(Drop)]
 pub struct StoreOutlet {
     entries: [SentEntry; PLACES],

@@ -7,6 +7,7 @@ ghost use Rattle.outlet.specs.Waiting.{send_answer, sent, room_sent, take_answer
 use answers::refusal::{NoRoom, NothingWaits};
 use formats::entry::SentEntry;
 
+// The two forms are written each for itself, since they share no more than the trait and the ring of places.
 // `waiting o` is the list of the entries that wait in the outlet o, oldest first, and `room o` says how many more it takes.
 // `beside o` is what o stands on: its handed-in bytes, if it has any.
 pub trait Outlet {

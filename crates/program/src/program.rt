@@ -6,6 +6,7 @@ mod access;
 mod reader;
 
 // One to 512 instructions whose jumps lead to one of them, and whose last is HALT or JUMP. Seen as the list of them.
+// An array with a count: nothing is allocated, and a program is copied into each engine.
 #[derive(Clone, Copy)]
 pub struct Program {
     instructions: [Instruction; 512],

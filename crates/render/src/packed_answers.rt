@@ -102,6 +102,7 @@ fn show_image(heap: Global, kind: Kind, bytes: &[u8], out: &mut Vec<u8>) -> Resu
     let entries = count(kind, bytes);
     let head = format!(in heap; "entries {entries} spare {}", spare(kind, bytes))?;
     write_line(out, head.as_str())?;
+    // By place, which is what the packed list is asked for.
     for place in 0..entries {
         show_one(heap, kind, bytes, place, out)?;
     }

@@ -6,6 +6,7 @@ ghost use Rattle.wire.specs.Settings.{pairs_in, lines_in, places_in};
 const TOO_MANY: usize = 9;
 
 // Lines and entry places. Of more than nine entry places only nine are kept: as many are refused already.
+// A fixed array with a count: reading settings allocates nothing.
 #[derive(Clone, Copy)]
 pub struct Settings {
     lines: usize,
@@ -22,6 +23,7 @@ fn pairs(bytes: &[u8], list: &mut [usize]) -> usize
 {
     let (pairs, _) = bytes.as_chunks::<2>();
     let count = pairs.len().min(list.len());
+    // Numbers by index: nothing is known of a list afterwards that was lent out item by item beside another.
     for (i, pair) in pairs[..count].iter().enumerate() {
         list[i] = usize::from(u16::from_be_bytes(*pair));
     }

@@ -22,7 +22,7 @@ fn number(i: usize) -> CoreNumber
 }
 
 impl<M: Memory, O: Outlet> Engine<M, O> {
-    // The word at an address, 0 where there is none.
+    // The word at an address, 0 where there is none: a step sees one word of the memory, whatever its instruction is.
     fn word_or_zero(&self, address: usize) -> u32
         ensures { result ≡ slice_index self.now.memory address }
     {

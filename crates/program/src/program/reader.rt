@@ -62,6 +62,7 @@ impl Program {
         }
         let count = bytes.len() / 4;
         let mut instructions = [Instruction::Halt; 512];
+        // By place, which is what the packed list is asked for.
         for place in 0..count {
             instructions[place] = instruction_at(count, bytes, place)?;
         }
