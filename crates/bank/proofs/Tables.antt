@@ -1,29 +1,27 @@
 -- Telling the other cores of a write, one core after the other.
 -- Assumes nothing.
 use Rattle.std.proofs.Common.{◌≡◌, ℕ, zero, suc, ◌+◌, ◌<◌, ◌≤◌, true, false, ltb, leb, List, [], ◌∷◌, ◌++◌, map, length, get_or, take, drop, set, sym, refl, ap, ◌∙◌, append_assoc, append-nil, le_of_suc-le-suc, arith, length-set, length-take-le, take_all, le-ltb, lt-ltb}
-use lib.Seq.{map-set, set_at, get_or_at}
+use lib.Seq.{set_at, get_or_at}
 use Rattle.std.proofs.lemmas.List.{length-map, take_more, take_more_set, drop_more, drop_all, get_or-map, map_push, take-map}
 use Rattle.std.proofs.lemmas.Bool.{and_from, and_parts, and_left, and_right}
-use Rattle.model.specs.Cores.{Core as ModelCore}
+use Rattle.model.specs.Cores.{Core}
 use Rattle.model.specs.Engine.{blank, all_below, new_core}
-use Rattle.cores.specs.declared.unit.Core.{Core}
-use Rattle.cores.specs.Units.{core_of}
 use Rattle.bank.specs.Tables.{placeable, hit_at, others_hit}
 
 -- as many cores as before
-hit_length : (w a : ℕ) (cs : List ModelCore) → length (others_hit w a cs) ≡ length cs
+hit_length : (w a : ℕ) (cs : List Core) → length (others_hit w a cs) ≡ length cs
 hit_length w a [] = refl
 hit_length zero a (c ∷ cs) = ap suc (length-map cs (hit_at a))
 hit_length (suc w) a (c ∷ cs) = ap suc (hit_length w a cs)
 
 -- the writer stays
-pub hit_writer : (w a : ℕ) (cs : List ModelCore) → get_or (others_hit w a cs) w blank ≡ get_or cs w blank
+pub hit_writer : (w a : ℕ) (cs : List Core) → get_or (others_hit w a cs) w blank ≡ get_or cs w blank
 hit_writer w a [] = refl
 hit_writer zero a (c ∷ cs) = refl
 hit_writer (suc w) a (c ∷ cs) = hit_writer w a cs
 
 -- every other core is told
-hit_other : (w a : ℕ) (cs : List ModelCore) (i : ℕ) → i < length cs → (i ≡ w → ⊥) → get_or (others_hit w a cs) i blank ≡ hit_at a (get_or cs i blank)
+hit_other : (w a : ℕ) (cs : List Core) (i : ℕ) → i < length cs → (i ≡ w → ⊥) → get_or (others_hit w a cs) i blank ≡ hit_at a (get_or cs i blank)
 hit_other w a [] i h ne = absurd (omega arith)
 hit_other zero a (c ∷ cs) zero h ne = absurd (ne refl)
 hit_other zero a (c ∷ cs) (suc i) h ne = get_or-map (hit_at a) cs i blank blank (le_of_suc-le-suc h)
@@ -31,48 +29,42 @@ hit_other (suc w) a (c ∷ cs) zero h ne = refl
 hit_other (suc w) a (c ∷ cs) (suc i) h ne = hit_other w a cs i (le_of_suc-le-suc h) (λ e. ne (ap suc e))
 
 -- one more of the aim's
-shift : (aim os : List ModelCore) (i : ℕ) (v : ModelCore) → i < length aim → v ≡ get_or aim i blank → take i aim ++ (v ∷ drop (i + 1) os) ≡ take (i + 1) aim ++ drop (i + 1) os
+shift : (aim os : List Core) (i : ℕ) (v : Core) → i < length aim → v ≡ get_or aim i blank → take i aim ++ (v ∷ drop (i + 1) os) ≡ take (i + 1) aim ++ drop (i + 1) os
 shift aim os i v h is =
     ap (λ x. take i aim ++ (x ∷ drop (i + 1) os)) is ∙ sym (append_assoc (take i aim) (get_or aim i blank ∷ []) (drop (i + 1) os)) ∙ ap (λ l. l ++ drop (i + 1) os) (sym (take_more aim i blank h))
 
-module _ (w a : ℕ) (cores olds : List Core) (i : ℕ) (within : i < length olds) (same : length cores ≡ length olds) (sofar : map core_of cores ≡ take i (others_hit w a (map core_of olds)) ++ drop i (map core_of olds)) where
-  inside : i < length (map core_of olds)
-  inside = omega (arith, length-map olds core_of)
+module _ (w a : ℕ) (cores olds : List Core) (i : ℕ) (within : i < length olds) (same : length cores ≡ length olds) (sofar : cores ≡ take i (others_hit w a olds) ++ drop i olds) where
+  inside_aim : i < length (others_hit w a olds)
+  inside_aim = omega (arith, hit_length w a olds, within)
 
-  inside_aim : i < length (others_hit w a (map core_of olds))
-  inside_aim = omega (arith, hit_length w a (map core_of olds), inside)
+  front : length (take i (others_hit w a olds)) ≡ i
+  front = length-take-le i (others_hit w a olds) (omega (arith, inside_aim))
 
-  front : length (take i (others_hit w a (map core_of olds))) ≡ i
-  front = length-take-le i (others_hit w a (map core_of olds)) (omega (arith, inside_aim))
-
-  opened : map core_of cores ≡ take i (others_hit w a (map core_of olds)) ++ (get_or (map core_of olds) i blank ∷ drop (i + 1) (map core_of olds))
-  opened = sofar ∙ ap (λ l. take i (others_hit w a (map core_of olds)) ++ l) (drop_more (map core_of olds) i blank inside)
+  opened : cores ≡ take i (others_hit w a olds) ++ (get_or olds i blank ∷ drop (i + 1) olds)
+  opened = sofar ∙ ap (λ l. take i (others_hit w a olds) ++ l) (drop_more olds i blank within)
 
   -- the core at the place is as it was
-  here : (x : Core) → core_of (get_or cores i x) ≡ get_or (map core_of olds) i blank
+  here : (x : Core) → get_or cores i x ≡ get_or olds i blank
   here x =
-      sym (get_or-map core_of cores i x blank (omega arith)) ∙ ap (λ l. get_or l i blank) opened
-      ∙ get_or_at (take i (others_hit w a (map core_of olds))) (get_or (map core_of olds) i blank) (drop (i + 1) (map core_of olds)) blank i front
+      ap (λ l. get_or l i x) opened ∙ get_or_at (take i (others_hit w a olds)) (get_or olds i blank) (drop (i + 1) olds) x i front
 
   -- the writer is passed over
-  pub passed : i ≡ w → map core_of cores ≡ take (i + 1) (others_hit w a (map core_of olds)) ++ drop (i + 1) (map core_of olds)
+  pub passed : i ≡ w → cores ≡ take (i + 1) (others_hit w a olds) ++ drop (i + 1) olds
   passed e =
-      opened ∙ shift (others_hit w a (map core_of olds)) (map core_of olds) i (get_or (map core_of olds) i blank) inside_aim (sym (ap (λ k. get_or (others_hit w a (map core_of olds)) k blank) e ∙ hit_writer w a (map core_of olds) ∙ ap (λ k. get_or (map core_of olds) k blank) (sym e)))
+      opened ∙ shift (others_hit w a olds) olds i (get_or olds i blank) inside_aim (sym (ap (λ k. get_or (others_hit w a olds) k blank) e ∙ hit_writer w a olds ∙ ap (λ k. get_or olds k blank) (sym e)))
 
   -- another core is told
-  pub told : (x new : Core) → (i ≡ w → ⊥) → core_of new ≡ hit_at a (core_of (get_or cores i x)) → map core_of (set cores i new) ≡ take (i + 1) (others_hit w a (map core_of olds)) ++ drop (i + 1) (map core_of olds)
+  pub told : (x new : Core) → (i ≡ w → ⊥) → new ≡ hit_at a (get_or cores i x) → set cores i new ≡ take (i + 1) (others_hit w a olds) ++ drop (i + 1) olds
   told x new ne is =
-      let v : core_of new ≡ get_or (others_hit w a (map core_of olds)) i blank = is ∙ ap (hit_at a) (here x) ∙ sym (hit_other w a (map core_of olds) i inside ne) in
-      map-set core_of cores i new ∙ ap (λ l. set l i (core_of new)) opened
-      ∙ set_at (take i (others_hit w a (map core_of olds))) (get_or (map core_of olds) i blank) (drop (i + 1) (map core_of olds)) (core_of new) i front
-      ∙ shift (others_hit w a (map core_of olds)) (map core_of olds) i (core_of new) inside_aim v
+      let v : new ≡ get_or (others_hit w a olds) i blank = is ∙ ap (hit_at a) (here x) ∙ sym (hit_other w a olds i within ne) in
+      ap (λ l. set l i new) opened ∙ set_at (take i (others_hit w a olds)) (get_or olds i blank) (drop (i + 1) olds) new i front
+      ∙ shift (others_hit w a olds) olds i new inside_aim v
 
 -- all are told
-pub all_told : (w a : ℕ) (cores olds : List Core) (i : ℕ) → length olds ≤ i → map core_of cores ≡ take i (others_hit w a (map core_of olds)) ++ drop i (map core_of olds) → map core_of cores ≡ others_hit w a (map core_of olds)
+pub all_told : (w a : ℕ) (cores olds : List Core) (i : ℕ) → length olds ≤ i → cores ≡ take i (others_hit w a olds) ++ drop i olds → cores ≡ others_hit w a olds
 all_told w a cores olds i past sofar =
-    let long = length-map olds core_of in
-    sofar ∙ ap (λ l. l ++ drop i (map core_of olds)) (take_all i (others_hit w a (map core_of olds)) (omega (arith, hit_length w a (map core_of olds))))
-    ∙ ap (λ l. others_hit w a (map core_of olds) ++ l) (drop_all i (map core_of olds) (omega arith)) ∙ append-nil (others_hit w a (map core_of olds))
+    sofar ∙ ap (λ l. l ++ drop i olds) (take_all i (others_hit w a olds) (omega (arith, hit_length w a olds)))
+    ∙ ap (λ l. others_hit w a olds ++ l) (drop_all i olds (omega arith)) ∙ append-nil (others_hit w a olds)
 
 -- one place more below a bound
 below_push : (ps : List ℕ) (p n : ℕ) → all_below ps n ≡ true → p < n → all_below (ps ++ (p ∷ [])) n ≡ true
@@ -88,16 +80,16 @@ below_not (q ∷ ps) (suc i) n h le = and_right (ltb q n) (all_below ps n) (belo
 -- a table being filled: so many new cores stand in front
 pub record Filled (cores : List Core) (places : List ℕ) (i : ℕ) : Type 0 where
   pub sized : length cores ≡ 8
-  pub made : map core_of (take i cores) ≡ map new_core (take i places)
+  pub made : take i cores ≡ map new_core (take i places)
   pub below : all_below (take i places) 512 ≡ true
 
 -- one more
-pub filled_more : (cores : List Core) (places : List ℕ) (i : ℕ) (c : Core) → length places ≤ 8 → i < length places → get_or places i 0 ≤ 511 → core_of c ≡ new_core (get_or places i 0) → Filled cores places i → Filled (set cores i c) places (i + 1)
+pub filled_more : (cores : List Core) (places : List ℕ) (i : ℕ) (c : Core) → length places ≤ 8 → i < length places → get_or places i 0 ≤ 511 → c ≡ new_core (get_or places i 0) → Filled cores places i → Filled (set cores i c) places (i + 1)
 filled_more cores places i c few h low is f =
     let more = take_more places i 0 h in
     record {
       sized = length-set cores i c ∙ f.sized;
-      made = ap (map core_of) (take_more_set cores i c (omega (arith, f.sized))) ∙ map_push core_of (take i cores) c ∙ ap (λ l. l ++ (core_of c ∷ [])) f.made ∙ ap (λ x. map new_core (take i places) ++ (x ∷ [])) is ∙ sym (map_push new_core (take i places) (get_or places i 0)) ∙ ap (map new_core) (sym more);
+      made = take_more_set cores i c (omega (arith, f.sized)) ∙ ap (λ l. l ++ (c ∷ [])) f.made ∙ ap (λ x. map new_core (take i places) ++ (x ∷ [])) is ∙ sym (map_push new_core (take i places) (get_or places i 0)) ∙ ap (map new_core) (sym more);
       below = ap (λ l. all_below l 512) more ∙ below_push (take i places) (get_or places i 0) 512 f.below (omega arith);
     }
 
@@ -105,19 +97,15 @@ filled_more cores places i c few h low is f =
 pub not_placeable_high : (places : List ℕ) (i : ℕ) → i < length places → 511 < get_or places i 0 → placeable places ≡ false
 not_placeable_high places i h high = and_right (leb (length places) 8) (all_below places 512) (below_not places i 512 h (omega arith))
 
-hit_take : (w a n : ℕ) (cs : List ModelCore) → take n (others_hit w a cs) ≡ others_hit w a (take n cs)
+-- the cores in use are told where all are
+pub hit_take : (w a n : ℕ) (cs : List Core) → take n (others_hit w a cs) ≡ others_hit w a (take n cs)
 hit_take w a zero cs = refl
 hit_take w a (suc n) [] = refl
 hit_take zero a (suc n) (c ∷ cs) = ap (λ l. c ∷ l) (take-map (hit_at a) n cs)
 hit_take (suc w) a (suc n) (c ∷ cs) = ap (λ l. hit_at a c ∷ l) (hit_take w a n cs)
 
--- the cores in use are told where all are
-pub told_in_use : (w a n : ℕ) (olds news : List Core) → map core_of news ≡ others_hit w a (map core_of olds) → map core_of (take n news) ≡ others_hit w a (map core_of (take n olds))
-told_in_use w a n olds news all =
-    sym (take-map core_of n news) ∙ ap (take n) all ∙ hit_take w a n (map core_of olds) ∙ ap (others_hit w a) (take-map core_of n olds)
-
 -- telling the others after the writer has moved, or before it
-pub told_after : (w a : ℕ) (cs : List ModelCore) (c : ModelCore) → others_hit w a (set cs w c) ≡ set (map (hit_at a) cs) w c
+pub told_after : (w a : ℕ) (cs : List Core) (c : Core) → others_hit w a (set cs w c) ≡ set (map (hit_at a) cs) w c
 told_after w a [] c = refl
 told_after zero a (d ∷ cs) c = refl
 told_after (suc w) a (d ∷ cs) c = ap (λ l. hit_at a d ∷ l) (told_after w a cs c)

@@ -1,14 +1,13 @@
 -- The table of cores as the list of the model's, and what a written word does to the others.
 -- Assumes nothing.
 use Rattle.std.specs.Prelude.{◌≡◌, ℕ, zero, suc, Bool, ◌&&◌, List, [], ◌∷◌, map, length, take, nat_le}
-use Rattle.model.specs.Cores.{Core as ModelCore}
+use Rattle.model.specs.Cores.{Core}
 use Rattle.model.specs.Engine.{struck_at, all_below, new_core}
-use Rattle.cores.specs.Units.{core_of}
 use Rattle.bank.specs.declared.table.Table.{Table}
 
 -- the cores in use
-abbrev pub cores_of : Table → List ModelCore
-cores_of t = map core_of (take t.count t.cores)
+abbrev pub cores_of : Table → List Core
+cores_of t = take t.count t.cores
 
 -- entry places for which a table can be made
 abbrev pub placeable : List ℕ → Bool
@@ -21,11 +20,11 @@ pub record NewTable (t : Table) (places : List ℕ) : Type 0 where
   pub sized : length t.cores ≡ 8
 
 -- a core once another has written the word at an address
-abbrev pub hit_at : ℕ → ModelCore → ModelCore
+abbrev pub hit_at : ℕ → Core → Core
 hit_at a c = struck_at c.state a c
 
 -- the cores once one of them has written there: the writer stays as it is
-abbrev pub others_hit : (writer : ℕ) → ℕ → List ModelCore → List ModelCore
+abbrev pub others_hit : (writer : ℕ) → ℕ → List Core → List Core
 others_hit w a [] = []
 others_hit zero a (c ∷ cs) = c ∷ map (hit_at a) cs
 others_hit (suc w) a (c ∷ cs) = hit_at a c ∷ others_hit w a cs

@@ -1,6 +1,5 @@
 // The table of an engine's cores.
-ghost use Rattle.std.specs.Prelude.{◌≡◌, true, false, [], map, length, MatchOption};
-ghost use Rattle.cores.specs.Units.{core_of};
+ghost use Rattle.std.specs.Prelude.{◌≡◌, true, false, [], length, MatchOption};
 ghost use Rattle.bank.specs.Tables.{cores_of, placeable, NewTable, others_hit};
 
 use cores::unit::Core;
@@ -44,6 +43,7 @@ impl Table {
     }
 
     // A core has written the word at an address: the others are told.
+    #[tactic(auto, using(crate::proofs::Tables::hit_take))]
     pub fn tell_others(&mut self, writer: usize, address: usize)
         ensures cores { cores_of self.new ≡ others_hit writer address (cores_of self.old) }
         ensures count { self.new.count ≡ self.old.count }
@@ -55,7 +55,7 @@ impl Table {
 
 // A core has written the word at an address: every other one in TRANSACTION with a tagged line there goes to ABORT.
 pub fn broadcast(cores: &mut [Core], writer: usize, address: usize)
-    ensures { map core_of cores.new ≡ others_hit writer address (map core_of cores.old) }
+    ensures { cores.new ≡ others_hit writer address cores.old }
 {
     for (i, core) in cores.iter_mut().enumerate() {
         if i != writer {

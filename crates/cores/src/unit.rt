@@ -1,10 +1,8 @@
 // A core of the engine.
-ghost use Rattle.std.specs.Prelude.{◌≤◌};
-ghost use Rattle.cores.specs.Bounds.{pc_most, count_most};
-
 use crate::buffer::Buffer;
 use model::place::Place;
 use model::state::State;
+use std::marker::Model;
 
 mod access;
 mod bypass;
@@ -24,7 +22,17 @@ pub struct Core {
     depth: u32,
     count: u32,
     buffer: Buffer,
-    ghost here: { place.pc ≤ pc_most state },
-    ghost back: { saved.pc ≤ 511 },
-    ghost bounded: { count ≤ count_most state },
+}
+
+// Seen as the model's core.
+impl Model for Core {
+    ghost use Rattle.model.specs.Cores.{Core as ModelCore};
+
+    ghost Value = { ModelCore };
+
+    ghost use Rattle.cores.specs.Units.{core_of, Bounded};
+
+    ghost view = { core_of };
+
+    ghost invariant = { Bounded };
 }

@@ -5,7 +5,7 @@ ghost use Rattle.model.specs.Engine.{new_core, struck_at};
 ghost use Rattle.model.specs.Calls.{look_at};
 ghost use Rattle.cores.specs.Asks.{ask_of, Onward};
 ghost use Rattle.cores.specs.Tags.{LineTags};
-ghost use Rattle.cores.specs.Units.{core_of, load_address};
+ghost use Rattle.cores.specs.Units.{load_address};
 
 use super::Core;
 use crate::ask::Ask;
@@ -18,7 +18,7 @@ use program::program::Program;
 impl Core {
     // A new core in BYPASS at an entry place, or None where the place is above 511.
     pub fn at(pc: usize) -> Option<Core>
-        ensures { MatchOption result (511 < pc) (λ c. (pc ≤ 511) × (core_of c ≡ new_core pc)) }
+        ensures { MatchOption result (511 < pc) (λ c. (pc ≤ 511) × (c ≡ new_core pc)) }
     {
         if pc > 511 {
             return None;
@@ -39,7 +39,7 @@ impl Core {
 
     // Another core wrote the word at an address: a core in TRANSACTION with a tagged line there goes to ABORT.
     pub fn strike(&mut self, address: usize)
-        ensures { core_of self.new ≡ struck_at self.old.state address (core_of self.old) }
+        ensures { self.new ≡ struck_at self.old.state address self.old }
     {
         if self.state == State::Transaction && self.buffer.tagged(address) {
             self.state = State::Abort;
@@ -48,7 +48,7 @@ impl Core {
 
     // What people see of the core.
     pub fn look(&self) -> Look
-        ensures { result ≡ look_at (core_of self.now) }
+        ensures { result ≡ look_at self.now }
     {
         Look {
             state: self.state,
@@ -61,6 +61,7 @@ impl Core {
     }
 
     // What the core's instruction asks for.
+    #[tactic(auto, unfolding(model::specs::Instructions::asks))]
     pub(super) fn ask(&self, program: &Program) -> Ask
         ensures value { ask_of self.now.place result ≡ asks program.now self.now.place }
         ensures onward { Onward self.now.place result }
@@ -81,7 +82,7 @@ impl Core {
     // Copies the tagged addresses to the first places of a list and answers their number; refused where the list is too
     // short, which it then leaves as it was.
     pub fn tags(&self, list: &mut [usize]) -> Result<usize, TagsRefusal>
-        ensures { LineTags (core_of self.now).lines list.old list.new result }
+        ensures { LineTags self.now.lines list.old list.new result }
     {
         self.buffer.tags(list)
     }

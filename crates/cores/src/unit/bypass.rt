@@ -4,7 +4,7 @@ ghost use Rattle.model.specs.declared.effect.Effect.TheVariants.{Sent};
 ghost use Rattle.model.specs.Cores.{plain_send, in_bypass};
 ghost use Rattle.cores.specs.Decisions.{outer_of, OnwardOuter};
 ghost use Rattle.cores.specs.Steps.{scene_of, opened};
-ghost use Rattle.cores.specs.Units.{core_of, outcome_of};
+ghost use Rattle.cores.specs.Units.{outcome_of};
 
 use super::Core;
 use crate::ask::{next, put};
@@ -19,7 +19,7 @@ impl Core {
     // Sending outside a block, when the token is free.
     fn plain_send(&mut self, scene: Scene, entry: SentEntry) -> Outcome
         requires { self.old.place.pc < 511 }
-        ensures { outcome_of self.new result ≡ plain_send (scene_of scene) (core_of self.old) scene.room (Sent entry) }
+        ensures { outcome_of self.new result ≡ plain_send (scene_of scene) self.old scene.room (Sent entry) }
     {
         if scene.room > 0 {
             self.plain(scene, State::Bypass, next(self.place), Effect::Sent(entry))
@@ -31,7 +31,7 @@ impl Core {
     // The core goes into the block that its BEGIN opens.
     fn open(&mut self)
         requires { self.old.place.pc < 511 }
-        ensures { core_of self.new ≡ opened (core_of self.old) }
+        ensures { self.new ≡ opened self.old }
     {
         self.state = State::Transaction;
         self.saved = self.place;
@@ -45,7 +45,7 @@ impl Core {
     pub(super) fn in_bypass(&mut self, outer: Result<Outer, Fault>, scene: Scene) -> Outcome
         requires here { self.old.place.pc ≤ 511 }
         requires onward { OnwardOuter self.old.place scene.words outer }
-        ensures { outcome_of self.new result ≡ in_bypass (scene_of scene) (core_of self.old) (outer_of self.old.place outer) }
+        ensures { outcome_of self.new result ≡ in_bypass (scene_of scene) self.old (outer_of self.old.place outer) }
     {
         match outer {
             Err(fault) => self.faulted(scene, Mark::Discarded, 0, fault),

@@ -2,7 +2,6 @@
 ghost use Rattle.std.specs.Prelude.{◌≡◌, ◌<◌, ◌≤◌};
 ghost use Rattle.model.specs.Cores.{resting, turned_to, performed, rolled_back};
 ghost use Rattle.cores.specs.Bounds.{pc_most, count_most};
-ghost use Rattle.cores.specs.Units.{core_of};
 
 use super::Core;
 use model::place::Place;
@@ -12,7 +11,7 @@ impl Core {
     // The core goes outside every block: no BEGIN open, nothing performed, no lines.
     pub(super) fn rest(&mut self, state: State, place: Place)
         requires { place.pc ≤ pc_most state }
-        ensures { core_of self.new ≡ resting state place self.old.saved }
+        ensures { self.new ≡ resting state place self.old.saved }
     {
         self.state = state;
         self.place = place;
@@ -23,7 +22,7 @@ impl Core {
 
     // The core goes back to where its block began.
     pub(super) fn roll_back(&mut self)
-        ensures { core_of self.new ≡ rolled_back (core_of self.old) }
+        ensures { self.new ≡ rolled_back self.old }
     {
         self.rest(State::Bypass, self.saved);
     }
@@ -32,7 +31,7 @@ impl Core {
     pub(super) fn turn_to(&mut self, state: State)
         requires pc_bound { self.old.place.pc ≤ pc_most state }
         requires count_bound { self.old.count ≤ count_most state }
-        ensures { core_of self.new ≡ turned_to (core_of self.old) state self.old.buffer }
+        ensures { self.new ≡ turned_to self.old state self.old.lines }
     {
         self.state = state;
     }
@@ -41,7 +40,7 @@ impl Core {
     pub(super) fn perform(&mut self, place: Place, depth: u32)
         requires pc_bound { place.pc ≤ pc_most self.old.state }
         requires count_bound { self.old.count < count_most self.old.state }
-        ensures { core_of self.new ≡ performed (core_of self.old) place depth self.old.buffer }
+        ensures { self.new ≡ performed self.old place depth self.old.lines }
     {
         self.place = place;
         self.depth = depth;

@@ -4,7 +4,7 @@ ghost use Rattle.model.specs.declared.state.State.TheVariants.{EarlyCommit};
 ghost use Rattle.model.specs.Cores.{in_early_commit};
 ghost use Rattle.cores.specs.Decisions.{inner_of, OnwardInner};
 ghost use Rattle.cores.specs.Steps.{scene_of};
-ghost use Rattle.cores.specs.Units.{core_of, outcome_of};
+ghost use Rattle.cores.specs.Units.{outcome_of};
 
 use super::Core;
 use crate::ask::{next, put};
@@ -19,7 +19,7 @@ impl Core {
     pub(super) fn in_early_commit(&mut self, inner: Result<Inner, Fault>, scene: Scene) -> Outcome
         requires state { self.old.state ≡ EarlyCommit }
         requires onward { OnwardInner self.old.place self.old.count scene.words inner }
-        ensures { outcome_of self.new result ≡ in_early_commit (scene_of scene) (core_of self.old) (inner_of self.old.place inner) }
+        ensures { outcome_of self.new result ≡ in_early_commit (scene_of scene) self.old (inner_of self.old.place inner) }
     {
         match inner {
             Err(fault) => self.faulted(scene, Mark::Kept, self.count, fault),

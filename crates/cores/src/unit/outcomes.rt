@@ -3,7 +3,7 @@ ghost use Rattle.std.specs.Prelude.{◌≡◌, ◌<◌, ◌≤◌};
 ghost use Rattle.model.specs.Cores.{freed, becomes, acts, takes_token, finishes, faulted, ends, plain};
 ghost use Rattle.cores.specs.Bounds.{pc_most};
 ghost use Rattle.cores.specs.Steps.{scene_of};
-ghost use Rattle.cores.specs.Units.{core_of, outcome_of};
+ghost use Rattle.cores.specs.Units.{outcome_of};
 
 use super::Core;
 use crate::ask::next;
@@ -36,14 +36,14 @@ fn unit_count(count: u32) -> UnitCount
 impl Core {
     // Only the core changes, to this one.
     pub(super) fn becomes(&self, scene: Scene, answer: Answer) -> Outcome
-        ensures { outcome_of self.now result ≡ becomes (scene_of scene) (core_of self.now) answer }
+        ensures { outcome_of self.now result ≡ becomes (scene_of scene) self.now answer }
     {
         self.acts(scene, Effect::Nothing, answer)
     }
 
     // The core changes to this one, with an effect.
     pub(super) fn acts(&self, scene: Scene, effect: Effect, answer: Answer) -> Outcome
-        ensures { outcome_of self.now result ≡ acts (scene_of scene) (core_of self.now) effect answer }
+        ensures { outcome_of self.now result ≡ acts (scene_of scene) self.now effect answer }
     {
         Outcome {
             effect,
@@ -55,7 +55,7 @@ impl Core {
 
     // The core changes to this one, and takes the token.
     pub(super) fn takes_token(&self, scene: Scene, answer: Answer) -> Outcome
-        ensures { outcome_of self.now result ≡ takes_token (scene_of scene) (core_of self.now) answer }
+        ensures { outcome_of self.now result ≡ takes_token (scene_of scene) self.now answer }
     {
         Outcome {
             token: Token::Core(scene.me.value() as usize),
@@ -73,7 +73,7 @@ impl Core {
         answer: Answer,
     ) -> Outcome
         requires { count ≤ 4096 }
-        ensures { outcome_of self.now result ≡ finishes (scene_of scene) (core_of self.now) effect mark count answer }
+        ensures { outcome_of self.now result ≡ finishes (scene_of scene) self.now effect mark count answer }
     {
         let entry = RecordEntry {
             core: scene.me,
@@ -91,7 +91,7 @@ impl Core {
     // A fault: the core finishes and stops where it is.
     pub(super) fn faulted(&mut self, scene: Scene, mark: Mark, count: u32, fault: Fault) -> Outcome
         requires { count ≤ 4096 }
-        ensures { outcome_of self.new result ≡ faulted (scene_of scene) (core_of self.old) mark count fault }
+        ensures { outcome_of self.new result ≡ faulted (scene_of scene) self.old mark count fault }
     {
         let answer = Answer::Faulted {
             fault,
@@ -105,7 +105,7 @@ impl Core {
     pub(super) fn ends(&mut self, scene: Scene, effect: Effect) -> Outcome
         requires pc_bound { self.old.place.pc < 511 }
         requires count_bound { self.old.count < 4096 }
-        ensures { outcome_of self.new result ≡ ends (scene_of scene) (core_of self.old) effect }
+        ensures { outcome_of self.new result ≡ ends (scene_of scene) self.old effect }
     {
         let count = self.count + 1;
         self.rest(State::Bypass, next(self.place));
@@ -121,7 +121,7 @@ impl Core {
         effect: Effect,
     ) -> Outcome
         requires { place.pc ≤ pc_most state }
-        ensures { outcome_of self.new result ≡ plain (scene_of scene) (core_of self.old) state place effect }
+        ensures { outcome_of self.new result ≡ plain (scene_of scene) self.old state place effect }
     {
         self.rest(state, place);
         self.finishes(scene, effect, Mark::Completed, 1, Answer::Done)

@@ -3,7 +3,7 @@ ghost use Rattle.std.specs.Prelude.{◌≡◌};
 ghost use Rattle.model.specs.Instructions.{outer_at, inner_at};
 ghost use Rattle.model.specs.Cores.{outcome};
 ghost use Rattle.cores.specs.Decisions.{outer_of, OnwardOuter, inner_of, OnwardInner};
-ghost use Rattle.cores.specs.Units.{core_of, scene_view, outcome_of};
+ghost use Rattle.cores.specs.Units.{scene_view, outcome_of};
 
 use super::Core;
 use crate::decide::{Inner, Outer};
@@ -14,6 +14,7 @@ use program::program::Program;
 
 impl Core {
     // What the core's instruction comes to outside every block.
+    #[tactic(auto, unfolding(model::specs::Instructions::outer_at))]
     fn outside(&self, program: &Program, words: usize) -> Result<Outer, Fault>
         ensures value { outer_of self.now.place result ≡ outer_at program.now words self.now.place }
         ensures onward { OnwardOuter self.now.place words result }
@@ -22,6 +23,7 @@ impl Core {
     }
 
     // What the core's instruction comes to inside its block.
+    #[tactic(auto, unfolding(model::specs::Instructions::inner_at))]
     fn inside(&self, program: &Program, words: usize) -> Result<Inner, Fault>
         ensures value { inner_of self.now.place result ≡ inner_at program.now words self.now.place self.now.depth self.now.count }
         ensures onward { OnwardInner self.now.place self.now.count words result }
@@ -31,7 +33,7 @@ impl Core {
 
     // One step, by the core's state and its instruction. Of the memory it looks only at the scene's word.
     pub fn step(&mut self, program: &Program, scene: Scene) -> Outcome
-        ensures { outcome_of self.new result ≡ outcome (scene_view program.now scene) (core_of self.old) }
+        ensures { outcome_of self.new result ≡ outcome (scene_view program.now scene) self.old }
     {
         match self.state {
             State::Bypass => self.in_bypass(self.outside(program, scene.words), scene),

@@ -5,7 +5,7 @@ ghost use Rattle.model.specs.Lines.{holds};
 ghost use Rattle.model.specs.Cores.{early, with_line, closes, in_transaction};
 ghost use Rattle.cores.specs.Decisions.{inner_of, OnwardInner};
 ghost use Rattle.cores.specs.Steps.{scene_of, loads_line, stores_line};
-ghost use Rattle.cores.specs.Units.{core_of, outcome_of};
+ghost use Rattle.cores.specs.Units.{outcome_of};
 
 use super::Core;
 use crate::ask::{next, put};
@@ -22,7 +22,7 @@ impl Core {
     // The block takes the token now and goes on to write its dirty lines, if any; its instruction is not yet performed.
     fn early(&mut self, scene: Scene) -> Outcome
         requires { self.old.state ≡ Transaction }
-        ensures { outcome_of self.new result ≡ early (scene_of scene) (core_of self.old) }
+        ensures { outcome_of self.new result ≡ early (scene_of scene) self.old }
     {
         if scene.token_taken() {
             return self.becomes(scene, Answer::Waiting);
@@ -41,8 +41,8 @@ impl Core {
         requires state { self.old.state ≡ Transaction }
         requires count_bound { self.old.count < 4096 }
         requires pc_bound { place.pc ≤ 511 }
-        requires fresh { holds self.old.buffer line.address ≡ false }
-        ensures { outcome_of self.new result ≡ with_line (scene_of scene) (core_of self.old) place line }
+        requires fresh { holds self.old.lines line.address ≡ false }
+        ensures { outcome_of self.new result ≡ with_line (scene_of scene) self.old place line }
     {
         if self.buffer.len() < scene.capacity {
             self.buffer.push(line);
@@ -58,7 +58,7 @@ impl Core {
         requires state { self.old.state ≡ Transaction }
         requires count_bound { self.old.count < 4096 }
         requires pc_bound { self.old.place.pc < 511 }
-        ensures { outcome_of self.new result ≡ loads_line scene (core_of self.old) address d }
+        ensures { outcome_of self.new result ≡ loads_line scene self.old address d }
     {
         match self.buffer.value(address) {
             Some(word) => {
@@ -78,11 +78,12 @@ impl Core {
     }
 
     // A store: to the line at the address, or by a new line.
+    #[tactic(auto, using(crate::proofs::Buffers::not_stored))]
     fn stores(&mut self, scene: Scene, address: usize, word: u32) -> Outcome
         requires state { self.old.state ≡ Transaction }
         requires count_bound { self.old.count < 4096 }
         requires pc_bound { self.old.place.pc < 511 }
-        ensures { outcome_of self.new result ≡ stores_line scene (core_of self.old) address word }
+        ensures { outcome_of self.new result ≡ stores_line scene self.old address word }
     {
         if self.buffer.store(address, word) {
             self.perform(next(self.place), self.depth);
@@ -102,7 +103,7 @@ impl Core {
     fn closes(&mut self, scene: Scene) -> Outcome
         requires count_bound { self.old.count < 4096 }
         requires pc_bound { self.old.place.pc < 511 }
-        ensures { outcome_of self.new result ≡ closes (scene_of scene) (core_of self.old) }
+        ensures { outcome_of self.new result ≡ closes (scene_of scene) self.old }
     {
         if self.buffer.any_dirty() {
             self.turn_to(State::Commit);
@@ -116,7 +117,7 @@ impl Core {
     pub(super) fn in_transaction(&mut self, inner: Result<Inner, Fault>, scene: Scene) -> Outcome
         requires state { self.old.state ≡ Transaction }
         requires onward { OnwardInner self.old.place self.old.count scene.words inner }
-        ensures { outcome_of self.new result ≡ in_transaction (scene_of scene) (core_of self.old) (inner_of self.old.place inner) }
+        ensures { outcome_of self.new result ≡ in_transaction (scene_of scene) self.old (inner_of self.old.place inner) }
     {
         match inner {
             Err(_) | Ok(Inner::Closes) if scene.token_taken() => self.becomes(

@@ -1,7 +1,5 @@
-use Rattle.std.proofs.Common.{List, map, ap, ◌∙◌}
+use Rattle.std.proofs.Common.{◌∙◌}
 use Rattle.std.proofs.lemmas.List.{set-get_or}
-use Rattle.cores.specs.declared.unit.Core.{Core}
-use Rattle.cores.specs.Units.{core_of}
 use Rattle.bank.proofs.Tables.{passed, told, all_told}
 use Rattle.bank.proofs.table.broadcast.Goals as goal
 use Rattle.bank.proofs.table.broadcast.Goals.{then-i-writer, else-i-writer}
@@ -10,9 +8,9 @@ pub loop-i-preserved : goal.loop-i-preserved
 loop-i-preserved c =
     elim c.if-i-writer.branch [
       | then-i-writer w ↦
-          ap (λ (l : List Core). map core_of l) w.cores-is ∙ told c.args.writer c.args.address c.loop-i.cores c.args.cores.now c.loop-i.i c.loop-i-test.true c.loop-i.auto.cores c.loop-i.invariant c.index-cores-i.result w.strike.new.self w.if-i-writer.true w.strike.ensures
+          w.cores-is ∙ told c.args.writer c.args.address c.loop-i.cores c.args.cores.now c.loop-i.i c.loop-i-test.true c.loop-i.auto.cores c.loop-i.invariant c.index-cores-i.result w.strike.new.self w.if-i-writer.true w.strike.ensures
       | else-i-writer w ↦
-          ap (λ (l : List Core). map core_of l) (w.cores-is ∙ set-get_or c.loop-i.cores c.loop-i.i c.index-cores-i.result)
+          w.cores-is ∙ set-get_or c.loop-i.cores c.loop-i.i c.index-cores-i.result
           ∙ passed c.args.writer c.args.address c.loop-i.cores c.args.cores.now c.loop-i.i c.loop-i-test.true c.loop-i.auto.cores c.loop-i.invariant w.if-i-writer.false
     ]
 
