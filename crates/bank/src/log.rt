@@ -4,7 +4,7 @@ use std::marker::Model;
 
 mod access;
 
-// `len` entries stand in front.
+// `len` entries stand in front. An array with a count: the record allocates nothing.
 #[derive(Drop)]
 pub struct Log {
     entries: [RecordEntry; 1024],

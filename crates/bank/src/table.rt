@@ -5,7 +5,7 @@ ghost use Rattle.bank.specs.Tables.{cores_of, placeable, NewTable, others_hit};
 use cores::unit::Core;
 use std::array;
 
-// Eight cores, of which the first `count` are in use.
+// Eight cores, of which the first `count` are in use. An array with a count: the table allocates nothing, and lends a core.
 #[derive(Drop)]
 pub struct Table {
     pub cores: [Core; 8],

@@ -6,7 +6,7 @@ mod access;
 mod change;
 mod tags;
 
-// `used` lines stand in front.
+// `used` lines stand in front. An array with a count: a buffer allocates nothing.
 #[derive(Drop)]
 pub struct Buffer {
     lines: [Line; 32],

@@ -69,7 +69,8 @@ impl Core {
         Ask::of(program.at(self.place.pc), self.place)
     }
 
-    // The address that the core's instruction would load, 0 where it is no LOAD.
+    // The address that the core's instruction would load, 0 where it is no LOAD. No Option: a step sees a word of the memory
+    // whatever its instruction is.
     pub fn load_address(&self, program: &Program) -> usize
         ensures { result ≡ load_address program.now self.now.place }
     {

@@ -77,7 +77,7 @@ impl Core {
         }
     }
 
-    // A store: to the line at the address, or by a new line.
+    // A store: to the line at the address, or by a new line. It differs from a load in the line and in what is done with it.
     #[tactic(auto, using(crate::proofs::Buffers::not_stored))]
     fn stores(&mut self, scene: Scene, address: usize, word: u32) -> Outcome
         requires state { self.old.state ≡ Transaction }
