@@ -49,7 +49,7 @@ def functions(root):
             rest = text[match.start():]
             end = re.search(r'^%s(?:\{\}|\}|.*;)$' % indent, rest, re.M)
             block = rest[:end.end()] if end else rest
-            opening = block.find('(')
+            opening = block.find('(', match.end() - match.start())
             depth, at = 0, opening
             while at < len(block):
                 depth += {'(': 1, ')': -1}.get(block[at], 0)
@@ -83,7 +83,7 @@ def numbers_for_kinds(root):
 
 def passed_on(root):
     """1c: a match, or an if, that passes an error or a None on by hand."""
-    return (lines_like(root, r'Err\((\w+)\) => (return )?Err\(\1\)', tests=False)
+    return (lines_like(root, r'Err\((\w+)\) => (return )?Err\(\1\)|^\s*Err\(\w+\)$|^\s*None$', tests=False)
             + lines_like(root, r'^\s*None => (return )?(None|Err\()', tests=False)
             + lines_like(root, r'Err\(_\) => (return )?Err\(', tests=False)
             + lines_like(root, r'Some\((\w+)\) => \1,$|None => 0,|Err\(_\) => 0,|None => false,', tests=False))

@@ -10,7 +10,7 @@ use crate::packed::PackedEntry;
 use answers::refusal::EntryFault;
 use formats::entry::{Mark, RecordEntry};
 
-// The mark of a number from 0 to 2. No TryFrom: the number was asked for before.
+// The mark of a number from 0 to 2. No TryFrom: `decode` asks for the number first, with the spare bits and the count.
 fn mark_of(field: u32) -> Mark
     ensures { result ≡ mark_at field }
 {

@@ -6,11 +6,11 @@ use answers::refusal::Refusal;
 use std::fmt;
 
 // A refusal, by the number of its question.
-#[derive(Drop)]
+#[derive(Clone, Copy, Drop)]
 pub struct Refused<R>(pub R);
 
 // A refusal that tells a place.
-#[derive(Drop)]
+#[derive(Clone, Copy, Drop)]
 pub struct RefusedAt<R> {
     pub refusal: R,
     pub place: usize,
