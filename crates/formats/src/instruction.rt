@@ -58,7 +58,7 @@ pub enum Instruction {
 }
 
 // The five fields of an instruction's word.
-#[derive(Clone, Copy)]
+#[derive(Clone, Copy, PartialEq, Eq, Debug)]
 pub struct Fields {
     pub opcode: u32,
     pub d: Register,

@@ -24,7 +24,7 @@ pub enum Call {
 }
 
 // What a call answers.
-#[derive(Clone, Copy)]
+#[derive(Clone, Copy, PartialEq, Eq, Debug)]
 pub enum Reply {
     Stepped(Result<Answer, StepRefusal>),
     Cleared(Result<(), ClearRefusal>),

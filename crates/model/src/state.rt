@@ -28,7 +28,7 @@ pub enum Token {
 }
 
 // What people see of a core.
-#[derive(Clone, Copy)]
+#[derive(Clone, Copy, PartialEq, Eq, Debug)]
 pub struct Look {
     pub state: State,
     pub pc: usize,
