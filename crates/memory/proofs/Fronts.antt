@@ -1,8 +1,21 @@
 -- A memory that is the front of a list: its length, and what a read and a write of it answer and leave.
-use Rattle.std.proofs.Common.{◌≡◌, ℕ, ◌<◌, ◌≤◌, min, cond, ltb, List, length, get_or, take, drop, set, Ok, Err, sym, ◌∙◌, arith, length-take, get_or-take, drop-set-lt}
+use Rattle.std.proofs.Common.{◌≡◌, ℕ, ◌<◌, ◌≤◌, min, cond, ltb, true, false, Option, Some, None, List, length, get_or, take, drop, set, Ok, Err, Result, sym, refl, ap, ◌∙◌, arith, length-take, drop-set-lt}
 use lib.Seq.{take-set-lt}
 use Rattle.std.proofs.lemmas.Bool.{lt-ltb, le-ltb}
+use Rattle.std.proofs.lemmas.Bool.Decides.{nat_tests}
+use Rattle.std.proofs.lemmas.List.{take_min, length-map, get_or-map}
+use Rattle.std.specs.Borrow.{Bor}
+use Rattle.std.specs.Prelude.{map}
+use Rattle.std.specs.Result.{IsErr}
+use Rattle.std.specs.Slice.{IsItemAt}
+use Rattle.answers.specs.declared.refusal.OutsideMemory.{OutsideMemory}
 use Rattle.memory.specs.Shared.{word_at, write_answer, written}
+
+-- the front, cut at the lesser of its bound and the list's length
+pub front_is : {X : Type 0} (n m : ℕ) (xs : List X) → m ≡ min (length xs) n → take m xs ≡ take n xs
+front_is n m xs e =
+    let k : m ≡ min n (length xs) = omega arith in
+    ap (λ i. take i xs) k ∙ take_min n xs
 
 -- the length of the front
 pub front_length : (n : ℕ) (ws : List ℕ) → min (length ws) n ≡ length (take n ws)
@@ -15,15 +28,36 @@ below_bound n ws a h = let e = length-take n ws in omega arith
 pub below_length : (n : ℕ) (ws : List ℕ) (a : ℕ) → a < length (take n ws) → a < length ws
 below_length n ws a h = let e = length-take n ws in omega arith
 
--- reading inside and outside
-pub reads_inside : (ws : List ℕ) (a x : ℕ) → a < length ws → x ≡ get_or ws a 0 → Ok x ≡ word_at ws a
-reads_inside ws a x h e = let t = lt-ltb a (length ws) h in rw (t, e)
+-- an address whose word is answered lies inside, and one that is refused outside
+pub read_inside : (ws : List ℕ) (a x : ℕ) → word_at ws a ≡ Ok x → a < length ws
+read_inside ws a x e = grind (arith, nat_tests)
 
-pub reads_outside : (ws : List ℕ) (a : ℕ) → length ws ≤ a → Err (record {}) ≡ word_at ws a
-reads_outside ws a h = let t = le-ltb a (length ws) h in rw t
+pub read_outside : (ws : List ℕ) (a : ℕ) (x : OutsideMemory) → word_at ws a ≡ Err x → length ws ≤ a
+read_outside ws a x e = grind (arith, nat_tests)
 
-pub reads_front : (n : ℕ) (ws : List ℕ) (a x : ℕ) → a < length (take n ws) → x ≡ get_or ws a 0 → Ok x ≡ word_at (take n ws) a
-reads_front n ws a x h e = reads_inside (take n ws) a x h (e ∙ sym (get_or-take n ws a 0 (below_bound n ws a h)))
+-- the same of a read of items whose numbers are the words
+pub item_read : (f : List ℕ → ℕ) (xs : List (List ℕ)) (ws : List ℕ) (a : ℕ) (r : Option (Bor (List ℕ))) (x : Bor (List ℕ)) → map f xs ≡ ws → IsItemAt xs a r → r ≡ Some x → Ok (f x.now) ≡ word_at ws a
+item_read f xs ws a None x e at is = cc
+item_read f xs ws a (Some y) x e at is =
+    let h : a < length xs = at.3.0 in
+    let l : length ws ≡ length xs = sym (ap length e) ∙ length-map xs f in
+    let t : ltb a (length ws) ≡ true = lt-ltb a (length ws) (omega arith) in
+    let same : y ≡ x = cc in
+    let k : get_or ws a 0 ≡ f x.now =
+    ap (λ l. get_or l a 0) (sym e) ∙ get_or-map f xs a y.now 0 h ∙ ap f (sym at.1) ∙ ap (λ (b : Bor (List ℕ)). f b.now) same in
+    rw (t, k)
+
+pub item_refused : (f : List ℕ → ℕ) (xs : List (List ℕ)) (ws : List ℕ) (a : ℕ) (r : Option (Bor (List ℕ))) → map f xs ≡ ws → IsItemAt xs a r → r ≡ None → Err (record {}) ≡ word_at ws a
+item_refused f xs ws a None e at is =
+    let l : length ws ≡ length xs = sym (ap length e) ∙ length-map xs f in
+    let t : ltb a (length ws) ≡ false = le-ltb a (length ws) (omega (arith, at.3)) in
+    rw t
+item_refused f xs ws a (Some y) e at is = cc
+
+-- there is but one refusal
+pub refused : {T : Type 0} (r : Result T OutsideMemory) → IsErr r → r ≡ Err (record {})
+refused (Ok u) h = cc
+refused (Err x) h = refl
 
 -- what a write answers inside and outside
 pub answers_inside : (ws : List ℕ) (a : ℕ) → a < length ws → Ok tt ≡ write_answer ws a

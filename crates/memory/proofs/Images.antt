@@ -1,15 +1,10 @@
 -- A write to a memory over bytes: its words, what lies beside them, and all bytes.
-use Rattle.std.proofs.Common.{◌≡◌, ℕ, ◌*◌, ◌<◌, ◌≤◌, List, length, take, drop, Ok, sym, ap, ◌∙◌, arith, length-set}
+use Rattle.std.proofs.Common.{◌≡◌, ℕ, ◌*◌, ◌<◌, ◌≤◌, List, length, take, drop, sym, ap, ◌∙◌, arith, length-set}
 use Rattle.std.proofs.lemmas.Bool.{lt-ltb, le-ltb}
-use Rattle.memory.specs.Shared.{word_at, written}
-use Rattle.memory.specs.Bytes.{word_from, words_in, memory_in, bytes_of, pasted, bytes_written}
-use Rattle.memory.proofs.Fronts.{below_length, reads_front, leaves_front, leaves_inside}
-use Rattle.memory.proofs.Quads.{quad_inside, quad_word_at, words_pasted, past_paste}
-
--- a read inside
-pub image_reads : (bs : List ℕ) (a x : ℕ) → a < length (memory_in bs) → x ≡ word_from bs (4 * a) → Ok x ≡ word_at (memory_in bs) a
-image_reads bs a x h e =
-    reads_front 65536 (words_in bs) a x h (e ∙ quad_word_at bs a (below_length 65536 (words_in bs) a h))
+use Rattle.memory.specs.Shared.{written}
+use Rattle.memory.specs.Bytes.{words_in, memory_in, bytes_of, pasted, bytes_written}
+use Rattle.memory.proofs.Fronts.{below_length, leaves_front, leaves_inside}
+use Rattle.memory.proofs.Quads.{quad_inside, words_pasted, past_paste}
 
 -- all bytes after a write outside
 pub image_outside : (bs : List ℕ) (a w : ℕ) → length (memory_in bs) ≤ a → bs ≡ bytes_written bs a w

@@ -1,10 +1,13 @@
 -- The words that bytes hold: how many, which, and what pasting a word's bytes makes of them.
-use Rattle.std.proofs.Common.{◌≡◌, ℕ, zero, suc, ◌+◌, ◌*◌, ◌/◌, ◌%◌, ◌<◌, ◌≤◌, List, [], ◌∷◌, ◌++◌, length, get_or, take, drop, set, sym, refl, ap, ◌∙◌, arith, drop-drop}
+use Rattle.std.proofs.Common.{◌≡◌, ℕ, zero, suc, ◌+◌, ◌*◌, ◌/◌, ◌%◌, ◌<◌, ◌≤◌, List, [], ◌∷◌, ◌++◌, length, take, drop, set, sym, refl, ap, ◌∙◌, arith, drop-drop}
 use native.Mathlib.Nat.{div-div-eq-div-mul}
 use borrow.Rule.Slice.PartMut.{put_mid}
 use Rattle.std.proofs.lemmas.Slice.{drop-put_mid}
+use Rattle.std.specs.Int.{from_be_bytes, w32}
+use Rattle.std.specs.Prelude.{map}
+use Rattle.std.specs.Simd.{first_chunks}
 use Rattle.memory.proofs.Fronts.{below_length}
-use Rattle.memory.specs.Bytes.{word_of, word_from, bytes_of, words_in, memory_in, pasted}
+use Rattle.memory.specs.Bytes.{word_of, bytes_of, words_in, memory_in, pasted}
 
 -- a place counted in fours, one further
 four_more : (i : ℕ) → 4 * suc i ≡ suc (suc (suc (suc (4 * i))))
@@ -18,22 +21,19 @@ words_length (a ∷ b ∷ []) = refl
 words_length (a ∷ b ∷ c ∷ []) = refl
 words_length (a ∷ b ∷ c ∷ d ∷ rest) = let h = words_length rest in omega arith
 
--- the byte at a place past the first four
-byte_past : (a b c d : ℕ) (rest : List ℕ) (i k : ℕ) → get_or (a ∷ b ∷ c ∷ d ∷ rest) (4 * suc i + k) 0 ≡ get_or rest (4 * i + k) 0
-byte_past a b c d rest i k =
-    let e : 4 * suc i + k ≡ suc (suc (suc (suc (4 * i + k)))) = omega arith in rw e
-
--- the word at a place is that of the four bytes there
-pub quad_word_at : (bs : List ℕ) (i : ℕ) → i < length (words_in bs) → word_from bs (4 * i) ≡ get_or (words_in bs) i 0
-quad_word_at [] i h = absurd (omega arith)
-quad_word_at (a ∷ []) i h = absurd (omega arith)
-quad_word_at (a ∷ b ∷ []) i h = absurd (omega arith)
-quad_word_at (a ∷ b ∷ c ∷ []) i h = absurd (omega arith)
-quad_word_at (a ∷ b ∷ c ∷ d ∷ rest) zero h = refl
-quad_word_at (a ∷ b ∷ c ∷ d ∷ rest) (suc i) h =
-    let k : i < length (words_in rest) = omega arith in
-    let e : get_or (a ∷ b ∷ c ∷ d ∷ rest) (4 * suc i) 0 ≡ get_or rest (4 * i) 0 = rw (four_more i) in
-    rw (e, byte_past a b c d rest i 1, byte_past a b c d rest i 2, byte_past a b c d rest i 3) (quad_word_at rest i k)
+-- the words are the numbers of the chunks of four
+pub words_of_chunks : (bs : List ℕ) → map (from_be_bytes w32) (first_chunks 4 (length bs / 4) bs) ≡ words_in bs
+words_of_chunks bs = ap (λ k. map (from_be_bytes w32) (first_chunks 4 k bs)) (sym (words_length bs)) ∙ each bs
+  where
+    each : (bs : List ℕ) → map (from_be_bytes w32) (first_chunks 4 (length (words_in bs)) bs) ≡ words_in bs
+    each [] = refl
+    each (a ∷ []) = refl
+    each (a ∷ b ∷ []) = refl
+    each (a ∷ b ∷ c ∷ []) = refl
+    each (a ∷ b ∷ c ∷ d ∷ rest) =
+        let e : from_be_bytes w32 (a ∷ b ∷ c ∷ d ∷ []) ≡ word_of a b c d = omega arith in
+        let h = each rest in
+        cc
 
 -- a word put together from its bytes
 join : (w x y z p q r : ℕ) → w ≡ x * 256 + p → x ≡ y * 256 + q → y ≡ z * 256 + r → z * 16777216 + r * 65536 + q * 256 + p ≡ w

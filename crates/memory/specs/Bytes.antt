@@ -1,15 +1,11 @@
 -- A memory over handed-in bytes, four to a word, most significant first: its words, and what a write leaves of all bytes.
-use Rattle.std.specs.Prelude.{ℕ, ◌+◌, ◌*◌, ◌/◌, ◌%◌, cond, List, [], ◌∷◌, ◌++◌, length, take, drop, nat_lt, slice_index}
+use Rattle.std.specs.Prelude.{ℕ, ◌+◌, ◌*◌, ◌/◌, ◌%◌, cond, List, [], ◌∷◌, ◌++◌, length, take, drop, nat_lt}
 use Rattle.std.specs.Borrow.{MutBor}
 use Rattle.memory.specs.Beside.{Beside, over}
 
 -- the word of four bytes
 abbrev pub word_of : ℕ → ℕ → ℕ → ℕ → ℕ
 word_of a b c d = a * 16777216 + b * 65536 + c * 256 + d
-
--- the word of the four bytes from a place on
-abbrev pub word_from : List ℕ → ℕ → ℕ
-word_from bytes at = word_of (slice_index bytes at) (slice_index bytes (at + 1)) (slice_index bytes (at + 2)) (slice_index bytes (at + 3))
 
 -- the four bytes of a word
 abbrev pub bytes_of : ℕ → List ℕ

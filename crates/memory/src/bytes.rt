@@ -1,7 +1,8 @@
 // A shared memory over handed-in bytes, four to a word, most significant first.
-ghost use Rattle.std.specs.Prelude.{◌≡◌, ◌+◌, ◌≤◌, length};
+ghost use Rattle.std.specs.Prelude.{◌≡◌, map};
+ghost use Rattle.std.specs.Int.{from_be_bytes, w32};
 ghost use Rattle.memory.specs.Shared.{written, write_answer};
-ghost use Rattle.memory.specs.Bytes.{word_from, bytes_of, pasted, memory_in, bytes_beside, bytes_written};
+ghost use Rattle.memory.specs.Bytes.{memory_in, bytes_beside, bytes_written};
 
 use crate::shared::{MOST_WORDS, Memory};
 use answers::refusal::OutsideMemory;
@@ -20,22 +21,14 @@ impl<'a> ByteMemory<'a> {
     {
         ByteMemory { bytes }
     }
-}
 
-// The word of the four bytes from `at` on.
-fn word_from(bytes: &[u8], at: usize) -> u32
-    requires { at + 4 ≤ length bytes.now }
-    ensures { result ≡ word_from bytes.now at }
-{
-    u32::from_be_bytes([bytes[at], bytes[at + 1], bytes[at + 2], bytes[at + 3]])
-}
-
-// Puts the four bytes of a word from `at` on.
-fn put_word(bytes: &mut [u8], at: usize, word: u32)
-    requires { at + 4 ≤ length bytes.old }
-    ensures { bytes.new ≡ pasted bytes.old at (bytes_of word) }
-{
-    bytes[at..at + 4].copy_from_slice(&word.to_be_bytes());
+    // The words that are the memory, four bytes each.
+    fn words(&self) -> &[[u8; 4]]
+        ensures { map (from_be_bytes w32) result.now ≡ memory_in self.now.bytes.now }
+    {
+        let (words, _) = self.bytes.as_chunks::<4>();
+        &words[..words.len().min(MOST_WORDS)]
+    }
 }
 
 impl<'a> Memory for ByteMemory<'a> {
@@ -44,15 +37,12 @@ impl<'a> Memory for ByteMemory<'a> {
     ghost beside = { λ m. bytes_beside m.bytes };
 
     fn len(&self) -> usize {
-        (self.bytes.len() / 4).min(MOST_WORDS)
+        self.words().len()
     }
 
     fn read(&self, address: usize) -> Result<u32, OutsideMemory> {
-        if address < self.len() {
-            Ok(word_from(self.bytes, 4 * address))
-        } else {
-            Err(OutsideMemory)
-        }
+        let four = self.words().get(address).ok_or(OutsideMemory)?;
+        Ok(u32::from_be_bytes(*four))
     }
 
     fn write(&mut self, address: usize, word: u32) -> Result<(), OutsideMemory>
@@ -61,11 +51,9 @@ impl<'a> Memory for ByteMemory<'a> {
         ensures same { bytes_beside self.new.bytes ≡ bytes_beside self.old.bytes }
         ensures buffer { self.new.bytes.now ≡ bytes_written self.old.bytes.now address word }
     {
-        if address < self.len() {
-            put_word(self.bytes, 4 * address, word);
-            Ok(())
-        } else {
-            Err(OutsideMemory)
-        }
+        self.read(address)?;
+        let at = 4 * address;
+        self.bytes[at..at + 4].copy_from_slice(&word.to_be_bytes());
+        Ok(())
     }
 }

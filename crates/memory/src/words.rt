@@ -20,6 +20,13 @@ impl<'a> WordMemory<'a> {
     {
         WordMemory { all }
     }
+
+    // The words that are the memory.
+    fn words(&self) -> &[u32]
+        ensures { result.now ≡ memory_of self.now.all.now }
+    {
+        &self.all[..self.all.len().min(MOST_WORDS)]
+    }
 }
 
 impl<'a> Memory for WordMemory<'a> {
@@ -28,15 +35,11 @@ impl<'a> Memory for WordMemory<'a> {
     ghost beside = { λ m. words_beside m.all };
 
     fn len(&self) -> usize {
-        self.all.len().min(MOST_WORDS)
+        self.words().len()
     }
 
     fn read(&self, address: usize) -> Result<u32, OutsideMemory> {
-        if address < self.len() {
-            Ok(self.all[address])
-        } else {
-            Err(OutsideMemory)
-        }
+        self.words().get(address).copied().ok_or(OutsideMemory)
     }
 
     fn write(&mut self, address: usize, word: u32) -> Result<(), OutsideMemory>
@@ -45,11 +48,9 @@ impl<'a> Memory for WordMemory<'a> {
         ensures same { words_beside self.new.all ≡ words_beside self.old.all }
         ensures buffer { self.new.all.now ≡ all_written self.old.all.now address word }
     {
-        if address < self.len() {
-            self.all[address] = word;
-            Ok(())
-        } else {
-            Err(OutsideMemory)
-        }
+        // By index, and not by get_mut: nothing is known of a slice afterwards that was lent out by it.
+        self.read(address)?;
+        self.all[address] = word;
+        Ok(())
     }
 }

@@ -1,16 +1,15 @@
-use Rattle.std.proofs.Common.{arith}
-use Rattle.memory.specs.Bytes.{memory_in}
-use Rattle.memory.proofs.Fronts.{reads_outside}
-use Rattle.memory.proofs.Images.{image_reads}
-use Rattle.memory.proofs.Quads.{quad_inside}
+use Rattle.std.proofs.Common.{Ok, ap, ◌∙◌}
+use Rattle.std.specs.Int.{from_be_bytes, w32}
+use Rattle.std.specs.Result.{result_ok}
+use Rattle.memory.proofs.Fronts.{item_read, item_refused, refused}
 use Rattle.memory.proofs.bytes.ByteMemoryMemory.read.Goals as goal
 
-pub word_from-requires : goal.word_from-requires
-word_from-requires c = quad_inside c.args.self.now.bytes.now c.args.address (omega arith)
+pub returns-in_err-four : goal.returns-in_err-four
+returns-in_err-four c =
+    refused c.from_residual.result c.from_residual.ensures.0
+    ∙ item_refused (from_be_bytes w32) c.words.result.now _ c.args.address c.get.result c.words.ensures c.get.ensures.lookup (c.ok_or.ensures.ok_part ∙ ap result_ok c.in_err-four.was)
 
-pub returns-then-address-len : goal.returns-then-address-len
-returns-then-address-len c =
-    image_reads c.args.self.now.bytes.now c.args.address c.word_from.result (omega arith) c.word_from.ensures
-
-pub returns-else-address-len : goal.returns-else-address-len
-returns-else-address-len c = reads_outside (memory_in c.args.self.now.bytes.now) c.args.address (omega arith)
+pub returns : goal.returns
+returns c =
+    ap Ok c.from_be_bytes.ensures
+    ∙ item_read (from_be_bytes w32) c.words.result.now _ c.args.address c.get.result c.in_ok-four.four c.words.ensures c.get.ensures.lookup (c.ok_or.ensures.ok_part ∙ ap result_ok c.in_ok-four.was)

@@ -1,12 +1,12 @@
-use Rattle.std.proofs.Common.{◌<◌, ◌≤◌, length, refl, ap, arith}
+use Rattle.std.proofs.Common.{◌<◌, ◌≤◌, length, refl, sym, ap, ◌∙◌, arith}
 use Rattle.memory.specs.Beside.{over}
 use Rattle.memory.specs.Words.{memory_of}
-use Rattle.memory.proofs.Fronts.{below_bound, below_length, answers_inside, answers_outside, leaves_front, leaves_outside, past_front, all_inside, all_outside}
+use Rattle.memory.proofs.Fronts.{read_inside, read_outside, refused, below_bound, below_length, answers_inside, answers_outside, leaves_front, leaves_outside, past_front, all_inside, all_outside}
 use Rattle.memory.proofs.words.WordMemoryMemory.write.Goals as goal
 
 -- the address lies in the memory
-inside : (c : goal.Then-address-len) → c.args.address < length (memory_of c.args.self.now.all.now)
-inside c = omega arith
+inside : (c : goal.In_ok-read) → c.args.address < length (memory_of c.args.self.now.all.now)
+inside c = read_inside _ c.args.address _ (sym c.read.ensures ∙ c.in_ok-read.was)
 
 pub offset_bounds-self-address : goal.offset_bounds-self-address
 offset_bounds-self-address c =
@@ -15,8 +15,20 @@ offset_bounds-self-address c =
 pub bounds-self-address : goal.bounds-self-address
 bounds-self-address c = below_length 65536 c.args.self.now.all.now c.args.address (inside c)
 
-pub returns-then-address-len : goal.returns-then-address-len
-returns-then-address-len c =
+pub returns-in_err-read : goal.returns-in_err-read
+returns-in_err-read c =
+    let all = c.args.self.now.all.now in
+    let a = c.args.address in
+    let h : length (memory_of all) ≤ a = read_outside _ a _ (sym c.read.ensures ∙ c.in_err-read.was) in
+    record {
+      value = refused c.from_residual.result c.from_residual.ensures.0 ∙ answers_outside (memory_of all) a h;
+      after = leaves_outside (memory_of all) a c.args.word h;
+      same = refl;
+      buffer = all_outside 65536 all a c.args.word h;
+    }
+
+pub returns : goal.returns
+returns c =
     let all = c.args.self.now.all.now in
     let a = c.args.address in
     record {
@@ -24,16 +36,4 @@ returns-then-address-len c =
       after = leaves_front 65536 all a c.args.word (inside c);
       same = ap (over c.args.self.now.all.ghost_name) (past_front 65536 all a c.args.word (inside c));
       buffer = all_inside 65536 all a c.args.word (inside c);
-    }
-
-pub returns-else-address-len : goal.returns-else-address-len
-returns-else-address-len c =
-    let all = c.args.self.now.all.now in
-    let a = c.args.address in
-    let h : length (memory_of all) ≤ a = omega arith in
-    record {
-      value = answers_outside (memory_of all) a h;
-      after = leaves_outside (memory_of all) a c.args.word h;
-      same = refl;
-      buffer = all_outside 65536 all a c.args.word h;
     }
