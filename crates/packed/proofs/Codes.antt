@@ -1,24 +1,31 @@
 -- Up to eight bytes as one number.
 -- Assumes nothing.
-use Rattle.std.proofs.Common.{◌≡◌, ℕ, zero, suc, ◌+◌, ◌-◌, ◌*◌, ◌/◌, ◌%◌, ◌<◌, ◌≤◌, List, [], ◌∷◌, ◌++◌, length, get_or, take, drop, sym, ap, subst, lt_of_lt_of_le, arith, length-take-le}
-use native.Mathlib.Nat.{pow-le-pow_right, div-div-eq-div-mul, suc-sub-suc}
+use Rattle.std.proofs.Common.{◌≡◌, ℕ, zero, suc, ◌-◌, ◌/◌, ◌%◌, ◌<◌, ◌≤◌, List, [], ◌∷◌, ◌++◌, length, get_or, drop, ap, arith}
+use native.Mathlib.Nat.{div-div-eq-div-mul, suc-sub-suc}
 use lib.Seq.{drop-append-le}
-use Rattle.std.proofs.lemmas.List.{drop_all, take_more}
-use Rattle.std.proofs.lemmas.Int.Digits.{number_more}
+use Rattle.std.proofs.lemmas.List.{drop_all}
+use borrow.Rule.Slice.PartMut.{put_mid}
+use Rattle.std.specs.Int.{from_be_bytes, w64}
 use Rattle.formats.specs.Bytes.{AllBytes, bytes_of, spelled}
-use Rattle.formats.proofs.Bytes.{spelled_fits, bytes_sized, all_push}
+use Rattle.formats.proofs.Bytes.{bytes_sized}
 
--- what fewer than eight bytes spell leaves room for one more
-pub front_fits : (bs : List ℕ) (i : ℕ) → i < length bs → length bs ≤ 8 → AllBytes (take i bs) → spelled (take i bs) < 72057594037927936
-front_fits bs i h few all =
-    lt_of_lt_of_le (spelled_fits i (take i bs) (length-take-le i bs (omega arith), all)) (pow-le-pow_right (omega arith) {i = i} {j = 7} (omega arith))
+-- numbers that each fit a byte are bytes
+pub all_bytes : (bs : List ℕ) → ((i : ℕ) → get_or bs i 0 < 256) → AllBytes bs
+all_bytes [] h = tt
+all_bytes (b ∷ bs) h = (h 0, all_bytes bs (λ i. h (suc i)))
 
--- one byte more
-pub spelled_more : (bs : List ℕ) (i : ℕ) → i < length bs → spelled (take (i + 1) bs) ≡ spelled (take i bs) * 256 + get_or bs i 0
-spelled_more bs i h = number_more 256 bs i h
-
-pub bytes_more : (bs : List ℕ) (i : ℕ) → i < length bs → AllBytes (take i bs) → get_or bs i 0 < 256 → AllBytes (take (i + 1) bs)
-bytes_more bs i h all low = subst AllBytes (sym (take_more bs i 0 h)) (all_push (take i bs) (get_or bs i 0) all low)
+-- bytes at the end of eight, behind zeros, spell the same as by themselves
+pub spelled_behind : (bs : List ℕ) → length bs ≤ 8 → from_be_bytes w64 (put_mid (8 - length bs) (8 - (8 - length bs)) (0 ∷ 0 ∷ 0 ∷ 0 ∷ 0 ∷ 0 ∷ 0 ∷ 0 ∷ []) bs) ≡ spelled bs
+spelled_behind [] few = omega arith
+spelled_behind (a ∷ []) few = omega arith
+spelled_behind (a ∷ b ∷ []) few = omega arith
+spelled_behind (a ∷ b ∷ c ∷ []) few = omega arith
+spelled_behind (a ∷ b ∷ c ∷ d ∷ []) few = omega arith
+spelled_behind (a ∷ b ∷ c ∷ d ∷ e ∷ []) few = omega arith
+spelled_behind (a ∷ b ∷ c ∷ d ∷ e ∷ f ∷ []) few = omega arith
+spelled_behind (a ∷ b ∷ c ∷ d ∷ e ∷ f ∷ g ∷ []) few = omega arith
+spelled_behind (a ∷ b ∷ c ∷ d ∷ e ∷ f ∷ g ∷ h ∷ []) few = omega arith
+spelled_behind (a ∷ b ∷ c ∷ d ∷ e ∷ f ∷ g ∷ h ∷ i ∷ bs) few = absurd (omega arith)
 
 -- the last k of a number's m lowest bytes are its k lowest
 pub last_bytes : (m k n : ℕ) → k ≤ m → drop (m - k) (bytes_of m n) ≡ bytes_of k n

@@ -8,11 +8,9 @@ pub(crate) fn spell(bytes: &[u8]) -> u64
     ensures value { result ≡ spelled bytes.now }
     ensures bytes { AllBytes bytes.now }
 {
-    let mut code: u64 = 0;
-    for b in bytes {
-        code = code * 256 + u64::from(*b);
-    }
-    code
+    let mut all = [0; 8];
+    all[8 - bytes.len()..].copy_from_slice(bytes);
+    u64::from_be_bytes(all)
 }
 
 // Writes a number's lowest bytes, as many as there is place for.
