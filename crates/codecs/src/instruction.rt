@@ -47,11 +47,8 @@ fn join(fields: Fields) -> u32
 fn only_if(zero: bool, instruction: Instruction) -> Result<Instruction, InstructionFault>
     ensures { result ≡ only_if zero instruction }
 {
-    if zero {
-        Ok(instruction)
-    } else {
-        Err(InstructionFault::BadField)
-    }
+    zero.then_some(instruction)
+        .ok_or(InstructionFault::BadField)
 }
 
 // The instruction's opcode and fields; a field that it does not name is zero.

@@ -1,6 +1,6 @@
 // The packed form of a record entry: one word, most significant byte first.
 ghost use Rattle.std.specs.Prelude.{◌≡◌};
-ghost use Rattle.formats.specs.Records.{mark_at, record_word, word_record, record_bytes, bytes_record};
+ghost use Rattle.formats.specs.Records.{record_word, word_record, record_bytes, bytes_record};
 ghost use Rattle.formats.proofs.Bytes.{bytes_sized, again_from, back_from};
 ghost use Rattle.formats.proofs.Records.{word_fits, word_again, word_back};
 ghost use Rattle.std.proofs.Common.{rules};
@@ -9,17 +9,6 @@ use crate::low::low;
 use crate::packed::PackedEntry;
 use answers::refusal::EntryFault;
 use formats::entry::{Mark, RecordEntry};
-
-// The mark of a number from 0 to 2. No TryFrom: `decode` asks for the number first, with the spare bits and the count.
-fn mark_of(field: u32) -> Mark
-    ensures { result ≡ mark_at field }
-{
-    match field {
-        0 => Mark::Completed,
-        1 => Mark::Discarded,
-        _ => Mark::Kept,
-    }
-}
 
 // The entry's word: core 3 bits, mark 2, zero 11, count 16, most significant first.
 fn encode(entry: RecordEntry) -> u32
@@ -34,13 +23,13 @@ fn encode(entry: RecordEntry) -> u32
 fn decode(word: u32) -> Result<RecordEntry, EntryFault>
     ensures { result ≡ word_record word }
 {
-    let mark = word / 134217728 % 4;
+    let mark = Mark::try_from(word / 134217728 % 4)?;
     let spare = word / 65536 % 2048;
     let count = word % 65536;
-    if (mark <= 2) & (spare == 0) & (count <= 4096) {
+    if (spare == 0) & (count <= 4096) {
         Ok(RecordEntry {
             core: low(word / 536870912),
-            mark: mark_of(mark),
+            mark,
             count: low(count),
         })
     } else {

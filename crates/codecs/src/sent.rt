@@ -1,31 +1,12 @@
 // The packed form of an outlet entry: five bytes, the channel and then the word, most significant byte first.
-ghost use Rattle.std.specs.Prelude.{◌≡◌};
-ghost use Rattle.formats.specs.Sents.{sent_code, sent_of, sent_bytes, bytes_sent, code_sent};
+ghost use Rattle.formats.specs.Sents.{sent_code, sent_bytes, bytes_sent, code_sent};
 ghost use Rattle.formats.proofs.Bytes.{bytes_sized, again_from, back_from};
 ghost use Rattle.formats.proofs.Sents.{code_fits, code_again, code_back};
 ghost use Rattle.std.proofs.Common.{rules};
 
-use crate::low::low;
 use crate::packed::PackedEntry;
 use formats::entry::SentEntry;
 use std::convert::Infallible;
-
-// The entry as a number of 40 bits.
-fn encode(entry: SentEntry) -> u64
-    ensures { result ≡ sent_code entry }
-{
-    u64::from(entry.channel.value()) * 4294967296 + u64::from(entry.word)
-}
-
-// The entry of a number's lowest 40 bits.
-fn decode(code: u64) -> SentEntry
-    ensures { result ≡ sent_of code }
-{
-    SentEntry {
-        channel: low((code / 4294967296) as u32),
-        word: (code % 4294967296) as u32,
-    }
-}
 
 impl PackedEntry for SentEntry {
     type Fault = Infallible;
@@ -53,10 +34,12 @@ impl PackedEntry for SentEntry {
     }
 
     fn pack(self) -> u64 {
-        encode(self)
+        let [a, b, c, d, e] = <[u8; 5]>::from(self);
+        u64::from_be_bytes([0, 0, 0, a, b, c, d, e])
     }
 
     fn unpack(code: u64) -> Result<SentEntry, Infallible> {
-        Ok(decode(code))
+        let [_, _, _, a, b, c, d, e] = code.to_be_bytes();
+        Ok(SentEntry::from([a, b, c, d, e]))
     }
 }

@@ -1,6 +1,7 @@
 -- Numbers as bytes, each way.
 -- Assumes nothing.
 use Rattle.std.proofs.Common.{◌≡◌, ℕ, zero, suc, ◌+◌, ◌*◌, ◌/◌, ◌%◌, ◌^◌, ◌<◌, ◌≤◌, List, [], ◌∷◌, ◌++◌, length, get_or, take, Ok, Result, sym, refl, ap, ◌∙◌, subst, pow-suc, add-one, arith, length-append, take_all, take-suc}
+use native.Mathlib.Nat.{div-div-eq-div-mul}
 use Rattle.std.specs.Int.Digits.{AllBelowBase}
 use Rattle.std.proofs.lemmas.Nat.{mod_below, div_below, div-mul-add, mod-mul-add}
 use Rattle.std.proofs.lemmas.Int.Digits.{number_push, number_lt}
@@ -74,7 +75,7 @@ pub low_four : (n : ℕ) → spelled (bytes_of 4 n) ≡ n % 4294967296
 unfolding bytes_of
 low_four n = omega arith
 
--- and the lowest five by 2 ^ 40
-pub low_five : (n : ℕ) → spelled (bytes_of 5 n) ≡ n % 1099511627776
+-- the lowest five bytes, written out
+pub low_bytes : (n : ℕ) → (n / 4294967296 % 256) ∷ (n / 16777216 % 256) ∷ (n / 65536 % 256) ∷ (n / 256 % 256) ∷ (n % 256) ∷ [] ≡ bytes_of 5 n
 unfolding bytes_of
-low_five n = omega arith
+low_bytes n = simp div-div-eq-div-mul

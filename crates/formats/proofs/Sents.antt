@@ -1,14 +1,13 @@
 -- Outlet entries as numbers of 40 bits, each way.
 -- Assumes nothing.
-use Rattle.std.proofs.Common.{◌≡◌, ℕ, ◌/◌, ◌^◌, ◌<◌, Ok, sym, ap, ◌∙◌, arith}
+use Rattle.std.proofs.Common.{◌≡◌, ℕ, ◌/◌, ◌%◌, ◌^◌, ◌<◌, [], ◌∷◌, Ok, ap, ◌∙◌, sym, arith}
 use mathlib.Core.HLevel.{is_prop→PathP}
 use native.Mathlib.Bridge.{le_prop}
 use Rattle.formats.specs.declared.entry.SentEntry.{SentEntry}
 use Rattle.formats.specs.Belows.{channel_of}
-use Rattle.formats.specs.Bytes.{bytes_of, spelled}
-use Rattle.formats.specs.Sents.{sent_code, sent_of, code_sent}
+use Rattle.formats.specs.Sents.{sent_code, sent_of, code_sent, sent_bytes}
 use Rattle.formats.proofs.Belows.{same_value}
-use Rattle.formats.proofs.Bytes.{low_five}
+use Rattle.formats.proofs.Bytes.{low_bytes}
 
 -- two entries with the same channel and word are the same
 pub same_sent : (e f : SentEntry) → e.channel ≡ f.channel → e.word ≡ f.word → e ≡ f
@@ -35,9 +34,15 @@ code_back n e h is =
     let it : sent_of n ≡ e = cc in
     ap sent_code (sym it) ∙ omega arith
 
--- the lowest five bytes of a number are all that an entry is made of
-pub low_sent : (n : ℕ) → sent_of (spelled (bytes_of 5 n)) ≡ sent_of n
-low_sent n =
-    same_sent (sent_of (spelled (bytes_of 5 n))) (sent_of n)
-    (same_value 256 (channel_of (spelled (bytes_of 5 n) / 4294967296)) (channel_of (n / 4294967296)) (omega (arith, low_five n)))
-    (omega (arith, low_five n))
+-- the channel and the bytes of the word are the entry's bytes
+pub bytes_written : (e : SentEntry) (channel : ℕ) → channel ≡ e.channel.value → channel ∷ (e.word / 16777216 % 256) ∷ (e.word / 65536 % 256) ∷ (e.word / 256 % 256) ∷ (e.word % 256) ∷ [] ≡ sent_bytes e
+bytes_written e channel is =
+    let n = sent_code e in
+    let f = e.channel.fits in
+    let g = e.fits in
+    let a : channel ≡ n / 4294967296 % 256 = omega arith in
+    let b : e.word / 16777216 % 256 ≡ n / 16777216 % 256 = omega arith in
+    let c : e.word / 65536 % 256 ≡ n / 65536 % 256 = omega arith in
+    let d : e.word / 256 % 256 ≡ n / 256 % 256 = omega arith in
+    let l : e.word % 256 ≡ n % 256 = omega arith in
+    cc (low_bytes n)

@@ -19,6 +19,10 @@ mark_number Kept = 2
 abbrev pub mark_at : ℕ → Mark
 mark_at n = cond (n == 0) Completed (cond (n == 1) Discarded Kept)
 
+-- the same, or the fault of any other number
+abbrev pub mark_from : ℕ → Result Mark EntryFault
+mark_from n = cond (nat_le n 2) (Ok (mark_at n)) (Err OutOfRange)
+
 -- an entry's word
 abbrev pub record_word : RecordEntry → ℕ
 record_word e = e.core.value * 536870912 + mark_number e.mark * 134217728 + e.count.value

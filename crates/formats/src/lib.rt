@@ -6,3 +6,4 @@ pub mod entry;
 pub mod instruction;
 mod mark;
 pub mod register;
+mod sent;
