@@ -91,21 +91,3 @@ entries_put bs i e h =
             ∙ ap (λ j. get_or (set (entries_in bs) i e) j d) (sym same)
       ]
     ])
-
--- a list of five is its elements
-pub five_of : (bs : List ℕ) → length bs ≡ 5 → bs ≡ get_or bs 0 0 ∷ get_or bs 1 0 ∷ get_or bs 2 0 ∷ get_or bs 3 0 ∷ get_or bs 4 0 ∷ []
-five_of [] h = absurd (omega arith)
-five_of (a ∷ []) h = absurd (omega arith)
-five_of (a ∷ b ∷ []) h = absurd (omega arith)
-five_of (a ∷ b ∷ c ∷ []) h = absurd (omega arith)
-five_of (a ∷ b ∷ c ∷ d ∷ []) h = absurd (omega arith)
-five_of (a ∷ b ∷ c ∷ d ∷ e ∷ []) h = refl
-five_of (a ∷ b ∷ c ∷ d ∷ e ∷ f ∷ rest) h = absurd (omega arith)
-
--- the number that five bytes spell
-pub spelled_five : (bs : List ℕ) → length bs ≡ 5 → get_or bs 0 0 * 4294967296 + get_or bs 1 0 * 16777216 + get_or bs 2 0 * 65536 + get_or bs 3 0 * 256 + get_or bs 4 0 ≡ spelled bs
-spelled_five bs h = rw (five_of bs h) (omega arith)
-
--- a number's five lowest bytes, written out
-pub low_bytes : (n : ℕ) → (n / 4294967296 % 256) ∷ (n / 16777216 % 256) ∷ (n / 65536 % 256) ∷ (n / 256 % 256) ∷ (n % 256) ∷ [] ≡ bytes_of 5 n
-low_bytes n = ap (drop 3) (eight_bytes n) ∙ last_bytes 8 5 n (omega arith)

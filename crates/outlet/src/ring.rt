@@ -3,7 +3,7 @@ ghost use Rattle.std.specs.Prelude.{◌≡◌, ◌-◌, ◌<◌, ◌≤◌};
 ghost use Rattle.outlet.specs.Ring.{wrapped, claim_answer, count_claimed, release_answer, first_released};
 
 #[derive(Clone, Copy)]
-pub struct Ring {
+pub(crate) struct Ring {
     places: usize,
     first: usize,
     count: usize,
@@ -14,7 +14,7 @@ pub struct Ring {
 
 impl Ring {
     // A ring of so many places, none of them filled.
-    pub fn new(places: usize) -> Ring
+    pub(crate) fn new(places: usize) -> Ring
         requires { places < 9223372036854775808 }
         ensures places { result.places ≡ places }
         ensures first { result.first ≡ 0 }
@@ -28,14 +28,14 @@ impl Ring {
     }
 
     // How many places are free.
-    pub fn room(&self) -> usize
+    pub(crate) fn room(&self) -> usize
         ensures { result ≡ self.now.places - self.now.count }
     {
         self.places - self.count
     }
 
     // Claims the place behind the filled ones, and answers which it is; where none is free, nothing changes.
-    pub fn claim(&mut self) -> Option<usize>
+    pub(crate) fn claim(&mut self) -> Option<usize>
         ensures value { result ≡ claim_answer self.old.places self.old.first self.old.count }
         ensures places { self.new.places ≡ self.old.places }
         ensures first { self.new.first ≡ self.old.first }
@@ -51,7 +51,7 @@ impl Ring {
     }
 
     // Releases the oldest filled place, and answers which it is; where none is filled, nothing changes.
-    pub fn release(&mut self) -> Option<usize>
+    pub(crate) fn release(&mut self) -> Option<usize>
         ensures value { result ≡ release_answer self.old.first self.old.count }
         ensures places { self.new.places ≡ self.old.places }
         ensures first { self.new.first ≡ first_released self.old.places self.old.first self.old.count }

@@ -6,7 +6,6 @@ ghost use Rattle.outlet.specs.Places.{in_ring, room_in};
 use crate::ring::Ring;
 use crate::waiting::Outlet;
 use answers::refusal::{NoRoom, NothingWaits};
-use codecs::packed::PackedEntry;
 use formats::entry::SentEntry;
 
 // How many entries the store has room for.
@@ -27,9 +26,8 @@ impl StoreOutlet {
         ensures waiting { in_ring result.entries result.ring ≡ [] }
         ensures room { room_in result.ring ≡ 64 }
     {
-        let Ok(none) = SentEntry::unpack(0);
         StoreOutlet {
-            entries: [none; PLACES],
+            entries: [SentEntry::from([0; 5]); PLACES],
             ring: Ring::new(PLACES),
         }
     }
