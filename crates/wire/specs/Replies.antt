@@ -1,7 +1,7 @@
 -- A reply as eight bytes: what was asked, the refusal, the answer, the fault, and a word.
 --   reply_bytes   a reply;  fault_bytes  what answers a word that is no call
 -- Assumes nothing.
-use Rattle.std.specs.Prelude.{ℕ, ◌%◌, List, ◌∷◌, Ok, Err, Result}
+use Rattle.std.specs.Prelude.{ℕ, ◌%◌, List, ◌∷◌, Some, None, Option, Ok, Err, Result}
 use Rattle.answers.specs.declared.answer.Answer.{Answer}
 use Rattle.answers.specs.declared.answer.Answer.TheVariants.{Running, Waiting, Done, Committing, Early, Full, Stopped, RolledBack, Retried, Faulted}
 use Rattle.answers.specs.Answers.{fault_number, answer_number}
@@ -15,19 +15,15 @@ use Rattle.model.specs.declared.call.Reply.{Reply}
 use Rattle.model.specs.declared.call.Reply.TheVariants.{Stepped, Cleared, Held, Word, GivenBack, Taken}
 use Rattle.model.specs.Refusals.{step_number, clear_number, hold_number, read_number, give_back_number}
 use Rattle.wire.specs.declared.call.CallFault.{CallFault}
-use Rattle.wire.specs.declared.reply.Asked.{Asked}
-use Rattle.wire.specs.declared.reply.Asked.TheVariants.{NoCall, Step, Clear, Hold, Read, GiveBack, Take}
+use Rattle.wire.specs.declared.kind.Kind.{Kind}
+use Rattle.wire.specs.declared.reply.Part.{Part}
+use Rattle.wire.specs.Kinds.{kind_number}
 use Rattle.wire.specs.Calls.{fault_number as call_fault_number}
 
--- what was asked, by number
-abbrev pub asked_number : Asked → ℕ
-asked_number NoCall = 0
-asked_number Step = 1
-asked_number Clear = 3
-asked_number Hold = 4
-asked_number Read = 5
-asked_number GiveBack = 6
-asked_number Take = 7
+-- what was asked, by number: 0 where it was no call
+abbrev pub asked_number : Option Kind → ℕ
+asked_number None = 0
+asked_number (Some kind) = kind_number kind
 
 -- the eight bytes, by place: four numbers, and a word, most significant byte first
 abbrev pub entry : ℕ → ℕ → ℕ → ℕ → ℕ → List ℕ
@@ -58,6 +54,24 @@ pc_in Stopped = 0
 pc_in RolledBack = 0
 pc_in Retried = 0
 pc_in (Faulted f pc) = pc % 4294967296
+
+-- what a reply says of a step, of a call that answers no more than yes, of a word and of an entry
+abbrev pub part_of : Answer → Part
+part_of a = record { answer = answer_number a; fault = fault_in a; word = pc_in a }
+
+abbrev pub plain_part : Unit {0} → Part
+plain_part u = record { answer = 0; fault = 0; word = 0 }
+
+abbrev pub word_part : ℕ → Part
+word_part w = record { answer = 0; fault = 0; word = w }
+
+abbrev pub sent_part : SentEntry → Part
+sent_part x = record { answer = x.channel.value; fault = 0; word = x.word }
+
+-- what a call answers, or its refusal
+abbrev pub told : {R : Type 0} → (R → ℕ) → ℕ → Result Part R → List ℕ
+told number kind (Ok p) = entry kind 0 p.answer p.fault p.word
+told number kind (Err r) = entry kind (number r) 0 0 0
 
 -- a step that was not refused
 abbrev pub answer_bytes : Answer → List ℕ

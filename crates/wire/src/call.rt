@@ -1,8 +1,10 @@
 // A call as four bytes: its kind, and then its operand.
-ghost use Rattle.std.specs.Prelude.{◌≡◌, ℕ, ◌<◌, Some, Ok};
+ghost use Rattle.std.specs.Prelude.{◌≡◌, ℕ, Some, Ok};
 ghost use Rattle.model.specs.declared.call.Call.{Call as ModelCall};
 ghost use Rattle.wire.specs.Calls.{call_of, bare, code_of, operand_code, fault_number};
+ghost use Rattle.wire.specs.Kinds.{kind_number};
 
+use crate::kind::Kind;
 use model::call::Call;
 
 // An operand is below this.
@@ -30,11 +32,7 @@ impl CallFault {
 fn bare(operand: u32, call: Call) -> Result<Call, CallFault>
     ensures { result ≡ bare operand call }
 {
-    if operand == 0 {
-        Ok(call)
-    } else {
-        Err(CallFault::BadOperand)
-    }
+    (operand == 0).then_some(call).ok_or(CallFault::BadOperand)
 }
 
 // The call that a word spells: the kind in its highest eight bits, the operand in the others.
@@ -43,28 +41,22 @@ pub fn decode(word: u32) -> Result<Call, CallFault>
     ensures back { (c : ModelCall) → result ≡ Ok c → code_of c ≡ Some word }
 {
     let operand = word % 16777216;
-    match word / 16777216 {
-        1 => Ok(Call::Step(operand as usize)),
-        2 => bare(operand, Call::Turn),
-        3 => bare(operand, Call::Clear),
-        4 => bare(operand, Call::Hold),
-        5 => Ok(Call::Read(operand as usize)),
-        6 => bare(operand, Call::GiveBack),
-        7 => bare(operand, Call::Take),
-        _ => Err(CallFault::UnknownKind),
+    match Kind::try_from(word / 16777216)? {
+        Kind::Step => Ok(Call::Step(operand as usize)),
+        Kind::Turn => bare(operand, Call::Turn),
+        Kind::Clear => bare(operand, Call::Clear),
+        Kind::Hold => bare(operand, Call::Hold),
+        Kind::Read => Ok(Call::Read(operand as usize)),
+        Kind::GiveBack => bare(operand, Call::GiveBack),
+        Kind::Take => bare(operand, Call::Take),
     }
 }
 
-// The word of a kind that has an operand, or None where the operand does not fit.
-fn with_operand(kind: u32, operand: usize) -> Option<u32>
-    requires { kind < 8 }
-    ensures { result ≡ operand_code kind operand }
+// The word of a kind with an operand, or None where the operand does not fit.
+fn with_operand(kind: Kind, operand: usize) -> Option<u32>
+    ensures { result ≡ operand_code (kind_number kind) operand }
 {
-    if operand < OPERANDS {
-        Some(kind * 16777216 + operand as u32)
-    } else {
-        None
-    }
+    (operand < OPERANDS).then(|| kind as u32 * 16777216 + operand as u32)
 }
 
 // The word of a call, or None where its operand does not fit.
@@ -73,12 +65,12 @@ pub fn encode(call: Call) -> Option<u32>
     ensures again { (w : ℕ) → result ≡ Some w → call_of w ≡ Ok call }
 {
     match call {
-        Call::Step(i) => with_operand(1, i),
-        Call::Turn => with_operand(2, 0),
-        Call::Clear => with_operand(3, 0),
-        Call::Hold => with_operand(4, 0),
-        Call::Read(address) => with_operand(5, address),
-        Call::GiveBack => with_operand(6, 0),
-        Call::Take => with_operand(7, 0),
+        Call::Step(i) => with_operand(Kind::Step, i),
+        Call::Turn => with_operand(Kind::Turn, 0),
+        Call::Clear => with_operand(Kind::Clear, 0),
+        Call::Hold => with_operand(Kind::Hold, 0),
+        Call::Read(address) => with_operand(Kind::Read, address),
+        Call::GiveBack => with_operand(Kind::GiveBack, 0),
+        Call::Take => with_operand(Kind::Take, 0),
     }
 }

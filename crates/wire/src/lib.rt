@@ -2,5 +2,6 @@
 #![tactic(auto)]
 
 pub mod call;
+mod kind;
 pub mod reply;
 pub mod settings;
