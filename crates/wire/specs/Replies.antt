@@ -55,12 +55,9 @@ pc_in RolledBack = 0
 pc_in Retried = 0
 pc_in (Faulted f pc) = pc % 4294967296
 
--- what a reply says of a step, of a call that answers no more than yes, of a word and of an entry
+-- what a reply says of a step, of a word and of an entry
 abbrev pub part_of : Answer → Part
 part_of a = record { answer = answer_number a; fault = fault_in a; word = pc_in a }
-
-abbrev pub plain_part : Unit {0} → Part
-plain_part u = record { answer = 0; fault = 0; word = 0 }
 
 abbrev pub word_part : ℕ → Part
 word_part w = record { answer = 0; fault = 0; word = w }

@@ -1,7 +1,7 @@
 // A reply as eight bytes: what was asked, the refusal, the answer, the fault, and a word.
 ghost use Rattle.std.specs.Prelude.{◌≡◌};
 ghost use Rattle.wire.specs.Kinds.{kind_number};
-ghost use Rattle.wire.specs.Replies.{asked_number, entry, told, part_of, plain_part, word_part, sent_part, reply_bytes, fault_bytes};
+ghost use Rattle.wire.specs.Replies.{asked_number, entry, told, part_of, word_part, sent_part, reply_bytes, fault_bytes};
 
 use crate::call::CallFault;
 use crate::kind::Kind;
@@ -31,19 +31,9 @@ impl From<Answer> for Part {
             },
             _ => Part {
                 answer: number,
-                fault: 0,
-                word: 0,
+                ..Part::default()
             },
         }
-    }
-}
-
-impl From<()> for Part {
-    ghost from_gives = { λ u p. p ≡ plain_part u };
-
-    fn from(value: ()) -> Part {
-        let () = value;
-        Part::default()
     }
 }
 
@@ -52,9 +42,8 @@ impl From<u32> for Part {
 
     fn from(value: u32) -> Part {
         Part {
-            answer: 0,
-            fault: 0,
             word: value,
+            ..Part::default()
         }
     }
 }
@@ -65,8 +54,8 @@ impl From<SentEntry> for Part {
     fn from(value: SentEntry) -> Part {
         Part {
             answer: value.channel.value() as u8,
-            fault: 0,
             word: value.word,
+            ..Part::default()
         }
     }
 }
@@ -96,10 +85,10 @@ pub fn reply_bytes(reply: Reply) -> [u8; 8]
 {
     match reply {
         Reply::Stepped(res) => entry(Kind::Step, res.map(Part::from)),
-        Reply::Cleared(res) => entry(Kind::Clear, res.map(Part::from)),
-        Reply::Held(res) => entry(Kind::Hold, res.map(Part::from)),
+        Reply::Cleared(res) => entry(Kind::Clear, res.map(|()| Part::default())),
+        Reply::Held(res) => entry(Kind::Hold, res.map(|()| Part::default())),
         Reply::Word(res) => entry(Kind::Read, res.map(Part::from)),
-        Reply::GivenBack(res) => entry(Kind::GiveBack, res.map(Part::from)),
+        Reply::GivenBack(res) => entry(Kind::GiveBack, res.map(|()| Part::default())),
         Reply::Taken(res) => entry(Kind::Take, res.map(Part::from)),
     }
 }
