@@ -1,54 +1,48 @@
 // What an engine is made from besides program, memory and outlet, as bytes.
-ghost use Rattle.std.specs.Prelude.{◌≡◌, ◌≤◌, ◌++◌, length, take, drop};
-ghost use Rattle.wire.specs.Settings.{pairs_in, lines_in, places_in};
+ghost use Rattle.std.specs.Prelude.{◌≡◌};
+ghost use Rattle.wire.specs.Settings.{lines_in, places_in};
+
+use arrayvec::ArrayVec;
+use std::marker::Model;
 
 // More entry places than an engine can have cores.
 const TOO_MANY: usize = 9;
 
 // Lines and entry places. Of more than nine entry places only nine are kept: as many are refused already.
-// A fixed array with a count: reading settings allocates nothing.
-#[derive(Clone, Copy)]
+// A list in fixed memory: reading settings allocates nothing.
+#[derive(Drop)]
 pub struct Settings {
     lines: usize,
-    places: [usize; TOO_MANY],
-    count: usize,
-    ghost few: { count ≤ 9 },
-    ghost sized: { length places ≡ 9 },
+    places: ArrayVec<usize, TOO_MANY>,
 }
 
-// Writes the numbers of pairs of bytes to the first places of a list, as many as fit, and answers how many.
-fn pairs(bytes: &[u8], list: &mut [usize]) -> usize
-    ensures count { result ≡ length (take (length list.old) (pairs_in bytes.now)) }
-    ensures after { list.new ≡ take (length list.old) (pairs_in bytes.now) ++ drop result list.old }
-{
-    let (pairs, _) = bytes.as_chunks::<2>();
-    let count = pairs.len().min(list.len());
-    // Numbers by index: nothing is known of a list afterwards that was lent out item by item beside another.
-    for (i, pair) in pairs[..count].iter().enumerate() {
-        list[i] = usize::from(u16::from_be_bytes(*pair));
-    }
-    count
+// Seen as the lines and the list of entry places.
+impl Model for Settings {
+    ghost use Rattle.wire.specs.Settings.{LinesAndPlaces};
+
+    ghost Value = { LinesAndPlaces };
+
+    ghost view = { λ s. record { lines = s.lines; places = s.places.items } };
 }
 
 impl Settings {
-    // The settings that the bytes hold: the lines of a core, then the entry places.
+    // The settings that the bytes hold: the lines of a core, then the entry places, two bytes each.
     pub fn read(bytes: &[u8]) -> Settings
         ensures lines { result.lines ≡ lines_in bytes.now }
-        ensures places { take result.count result.places ≡ places_in bytes.now }
+        ensures places { result.places ≡ places_in bytes.now }
     {
-        let mut places = [0; TOO_MANY];
+        let mut places = ArrayVec::new();
         let [lines, rest @ ..] = bytes else {
-            return Settings {
-                lines: 0,
-                places,
-                count: 0,
-            };
+            return Settings { lines: 0, places };
         };
-        let count = pairs(rest, &mut places);
+        let (pairs, _) = rest.as_chunks::<2>();
+        let kept = &pairs[..pairs.len().min(TOO_MANY)];
+        for pair in kept {
+            places.push(usize::from(u16::from_be_bytes(*pair)));
+        }
         Settings {
-            lines: *lines as usize,
+            lines: usize::from(*lines),
             places,
-            count,
         }
     }
 
@@ -61,8 +55,8 @@ impl Settings {
 
     // The entry places.
     pub fn places(&self) -> &[usize]
-        ensures { result.now ≡ take self.now.count self.now.places }
+        ensures { result.now ≡ self.now.places }
     {
-        &self.places[..self.count]
+        self.places.as_slice()
     }
 }

@@ -1,28 +1,18 @@
-use Rattle.std.proofs.Common.{ℕ, ◌-◌, ◌≤◌, List, length, take, drop, sym, ap, ◌∙◌, arith, length-take, take_at}
-use Rattle.wire.specs.Settings.{pairs_in}
-use Rattle.wire.proofs.Pairs.{lines_are, places_are}
+use Rattle.std.proofs.Common.{◌-◌, length, take, drop, ◌∙◌, arith}
+use Rattle.wire.proofs.Pairs.{kept_few, kept_more, kept_all, places_are}
 use Rattle.wire.proofs.settings.Settings.read.Goals as goal
 
--- the entry places, as the code reads them
-found : List ℕ → List ℕ
-found bs = take 9 (pairs_in (take (length bs - 1) (drop 1 bs)))
+pub push-requires : goal.push-requires
+push-requires c =
+    (omega arith, kept_few c.as_chunks.result.0.now c.min.result c.loop-pair.pair-index c.loop-pair.places.items c.min.ensures c.loop-pair.invariant c.loop-pair-test.true)
 
-few : (bs : List ℕ) → length (found bs) ≤ 9
-unfolding found
-few bs = simp length-take (omega arith)
+pub loop-pair-preserved : goal.loop-pair-preserved
+loop-pair-preserved c =
+    c.push.ensures.items
+    ∙ kept_more c.as_chunks.result.0.now c.min.result c.loop-pair.pair-index c.loop-pair.places.items c.min.ensures c.loop-pair.invariant c.from.result _ c.loop-pair-test.true (c.from.ensures ∙ c.from_be_bytes.ensures)
 
-pub invariant_of-result-2 : goal.invariant_of-result-2
-unfolding found
-invariant_of-result-2 c =
-    let h = few c.args.bytes.now in
-    record { few = omega (arith, c.pairs-count.ensures.count); sized = omega (arith, c.pairs-count.auto.list) }
-
-pub returns : goal.returns
-unfolding found
-returns c =
-    record {
-      lines = lines_are c.args.bytes.now;
-      places = ap (take c.pairs-count.result) c.pairs-count.ensures.after
-          ∙ take_at (found c.args.bytes.now) _ c.pairs-count.result (sym c.pairs-count.ensures.count)
-          ∙ places_are c.args.bytes.now;
-    }
+pub returns-clause-places : goal.returns-clause-places
+returns-clause-places c =
+    let bs = c.args.bytes.now in
+    kept_all c.as_chunks.result.0.now c.min.result c.loop-pair.pair-index c.loop-pair.places.items c.min.ensures c.loop-pair.invariant (take (length bs - 1) (drop 1 bs)) c.as_chunks.ensures.front c.loop-pair-test.false
+    ∙ places_are bs
