@@ -1,17 +1,18 @@
 -- What a line that was found tells of the lines, and lines that stay at different addresses.
 -- Assumes nothing.
-use Rattle.std.proofs.Common.{◌≡◌, ℕ, zero, suc, ◌+◌, ◌<◌, Bool, true, false, cond, ltb, eqb, ◌&&◌, List, [], ◌∷◌, ◌++◌, length, get_or, take, set, Some, None, Option, sym, refl, ap, ◌∙◌, subst, inl, inr, arith, lt-ltb, le-ltb, length-set}
+use Rattle.std.proofs.Common.{◌≡◌, ℕ, zero, suc, ◌+◌, ◌<◌, Bool, true, false, cond, ltb, eqb, ◌&&◌, List, [], ◌∷◌, ◌++◌, length, get_or, set, Some, None, Option, sym, refl, ap, ◌∙◌, subst, inl, inr, arith, lt-ltb, le-ltb, length-set}
 use Rattle.std.specs.List.{position, position_or_len, find, list_any, count_by}
 use Rattle.std.specs.Option.{option_map}
 use Rattle.std.proofs.lemmas.Bool.{cases_Bool, cond-false, ltb-true, ltb-false, or_parts}
-use Rattle.std.proofs.lemmas.List.{get_or-take, length-take-le, take_more_set}
 use Rattle.std.proofs.lemmas.List.Recursion.{is_count_by}
 use Rattle.std.proofs.lemmas.Bool.Decides.{nat_tests}
+use Rattle.arrayvec.specs.ArrayVec.{ArrayVec, with_items}
+use Rattle.arrayvec.proofs.ArrayVecLemmas.{items-with_items}
 use Rattle.model.specs.declared.place.Line.{Line}
 use Rattle.model.specs.declared.effect.Effect.TheVariants.{Nothing, Wrote}
 use Rattle.model.specs.Lines.{holds, value_at, tagged, restored, store_at, any_dirty, cleaned, wrote, left, Distinct}
 use Rattle.model.specs.Calls.{tag_count}
-use Rattle.cores.specs.Buffers.{Fits, index_of, dirty_index}
+use Rattle.cores.specs.Buffers.{index_of, dirty_index}
 
 -- what stands for a line past the end
 abbrev pub no_line : Line
@@ -164,46 +165,19 @@ holds_push (l ∷ ls) k a h n = let p = or_parts (eqb l.address a) (holds ls a) 
 eqb_swap : (a b : ℕ) → eqb a b ≡ false → eqb b a ≡ false
 eqb_swap a b h = grind (arith, nat_tests)
 
-distinct_push : (ls : List Line) (k : Line) → holds ls k.address ≡ false → Distinct ls → Distinct (ls ++ k ∷ [])
+pub distinct_push : (ls : List Line) (k : Line) → holds ls k.address ≡ false → Distinct ls → Distinct (ls ++ k ∷ [])
 distinct_push [] k h d = (refl, tt)
 distinct_push (l ∷ ls) k h d =
     let p = or_parts (eqb l.address k.address) (holds ls k.address) h in (holds_push ls k l.address d.0 (eqb_swap l.address k.address p.0), distinct_push ls k p.1 d.1)
 
--- a change in the front of a longer list
-take_set_front : {X : Type 0} (n : ℕ) (xs : List X) (i : ℕ) (x : X) → take n (set xs i x) ≡ set (take n xs) i x
-take_set_front zero xs i x = refl
-take_set_front (suc n) [] i x = refl
-take_set_front (suc n) (y ∷ xs) zero x = refl
-take_set_front (suc n) (y ∷ xs) (suc i) x = ap (λ ys. y ∷ ys) (take_set_front n xs i x)
+-- a line of a vector changes, and stays where it is: `shown` is what the vector shows of its lines for the change
+module _ (v : ArrayVec Line) (shown ls : List Line) (same : shown ≡ v.items) (seen : v.items ≡ ls) (f : Line → Line) (i : ℕ) where
+  pub line_shown : line_at shown i ≡ line_at ls i
+  line_shown = ap (λ l. line_at l i) (same ∙ seen)
 
--- the lines in use are the front of an array
-module _ (lines : List Line) (used : ℕ) (ls : List Line) (fits : Fits lines used) (seen : take used lines ≡ ls) where
-  front_length : length ls ≡ used
-  front_length = sym (ap length seen) ∙ length-take-le used lines (omega (arith, fits.few, fits.sized))
+  pub changed : (with_items v (set shown i (f (line_at shown i)))).items ≡ set ls i (f (line_at ls i))
+  changed =
+      items-with_items v (set shown i (f (line_at shown i))) (length-set shown i (f (line_at shown i)) ∙ ap length same) ∙ ap (λ l. set l i (f (line_at l i))) (same ∙ seen)
 
-  pub same_line : (i : ℕ) → i < length ls → line_at lines i ≡ line_at ls i
-  same_line i h = sym (get_or-take used lines i no_line (omega (arith, front_length))) ∙ ap (λ xs. line_at xs i) seen
-
-  -- a line in use changes
-  pub changed : (f : Line → Line) (i : ℕ) → i < length ls → take used (set lines i (f (line_at lines i))) ≡ set ls i (f (line_at ls i))
-  changed f i h =
-      take_set_front used lines i (f (line_at lines i)) ∙ ap (λ xs. set xs i (f (line_at lines i))) seen ∙ ap (λ l. set ls i (f l)) (same_line i h)
-
-  -- and stays where it is
-  pub changed_fits : (f : Line → Line) (i : ℕ) → i < length ls → ((l : Line) → (f l).address ≡ l.address) → Fits (set lines i (f (line_at lines i))) used
-  changed_fits f i h same = record {
-    few = fits.few;
-    sized = length-set lines i (f (line_at lines i)) ∙ fits.sized;
-    apart = subst Distinct (sym (changed f i h)) (distinct_set ls i _ (same _) (subst Distinct seen fits.apart));
-  }
-
-  -- one line more
-  pub pushed : (k : Line) → length ls < 32 → take (used + 1) (set lines used k) ≡ ls ++ k ∷ []
-  pushed k h = take_more_set lines used k (omega (arith, front_length, fits.sized)) ∙ ap (λ xs. xs ++ k ∷ []) seen
-
-  pub pushed_fits : (k : Line) → length ls < 32 → holds ls k.address ≡ false → Fits (set lines used k) (used + 1)
-  pushed_fits k h n = record {
-    few = omega (arith, front_length);
-    sized = length-set lines used k ∙ fits.sized;
-    apart = subst Distinct (sym (pushed k h)) (distinct_push ls k n (subst Distinct seen fits.apart));
-  }
+  pub changed_apart : ((l : Line) → (f l).address ≡ l.address) → Distinct v.items → Distinct (with_items v (set shown i (f (line_at shown i)))).items
+  changed_apart stays apart = subst Distinct (sym changed) (distinct_set ls i _ (stays _) (subst Distinct seen apart))

@@ -12,7 +12,7 @@ use formats::register::Register;
 use model::place::Place;
 
 // What an instruction asks for; all but Moves go on with the next instruction.
-#[derive(Clone, Copy)]
+#[derive(Clone, Copy, PartialEq, Eq, Debug)]
 pub enum Ask {
     // only pc and registers change, to these
     Moves(Place),

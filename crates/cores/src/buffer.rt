@@ -1,4 +1,5 @@
 // The write buffer of a core: up to 32 lines, in the order in which they were made.
+use arrayvec::ArrayVec;
 use model::place::Line;
 use std::marker::Model;
 
@@ -6,22 +7,20 @@ mod access;
 mod change;
 mod tags;
 
-// `used` lines stand in front. An array with a count: a buffer allocates nothing.
 #[derive(Drop)]
 pub struct Buffer {
-    lines: [Line; 32],
-    used: usize,
+    lines: ArrayVec<Line, 32>,
 }
 
 // Seen as the list of its lines, oldest first, each at an address of its own.
 impl Model for Buffer {
-    ghost use Rattle.std.specs.Prelude.{List, take};
+    ghost use Rattle.std.specs.Prelude.{List};
     ghost use Rattle.model.specs.declared.place.Line.{Line};
-    ghost use Rattle.cores.specs.Buffers.{Fits};
+    ghost use Rattle.model.specs.Lines.{Distinct};
 
     ghost Value = { List Line };
 
-    ghost view = { λ b. take b.used b.lines };
+    ghost view = { λ b. b.lines.items };
 
-    ghost invariant = { λ b. Fits b.lines b.used };
+    ghost invariant = { λ b. Distinct b.lines.items };
 }

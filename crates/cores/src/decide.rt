@@ -12,7 +12,7 @@ use formats::register::Register;
 use model::place::Place;
 
 // What an instruction comes to outside every block, if it has no fault.
-#[derive(Clone, Copy)]
+#[derive(Clone, Copy, PartialEq, Eq, Debug)]
 pub enum Outer {
     Moves(Place),
     Loads { address: usize, d: Register },
@@ -25,7 +25,7 @@ pub enum Outer {
 }
 
 // What an instruction comes to inside a block, if it has no fault.
-#[derive(Clone, Copy)]
+#[derive(Clone, Copy, PartialEq, Eq, Debug)]
 pub enum Inner {
     // the block goes on there with so many BEGINs open
     Moves { place: Place, depth: u32 },

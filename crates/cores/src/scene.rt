@@ -9,7 +9,7 @@ use model::effect::Effect;
 use model::state::Token;
 
 // The rest of the engine, as a step of a core sees it.
-#[derive(Clone, Copy)]
+#[derive(Clone, Copy, PartialEq, Eq, Debug)]
 pub struct Scene {
     // how many lines a core has
     pub capacity: usize,
@@ -36,7 +36,7 @@ impl Scene {
 }
 
 // What a step comes to besides the core.
-#[derive(Clone, Copy)]
+#[derive(Clone, Copy, PartialEq, Eq, Debug)]
 pub struct Outcome {
     // what others see of it
     pub effect: Effect,

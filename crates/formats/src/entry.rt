@@ -22,6 +22,22 @@ pub struct RecordEntry {
     pub count: UnitCount,
 }
 
+// What stands where a record has no entry yet.
+impl Default for RecordEntry {
+    ghost use Rattle.std.specs.Prelude.{◌≡◌};
+    ghost use Rattle.formats.specs.declared.entry.Mark.TheVariants.{Completed};
+
+    ghost is_default = { λ e. (e.core.value ≡ 0) × (e.mark ≡ Completed) × (e.count.value ≡ 0) };
+
+    fn default() -> RecordEntry {
+        RecordEntry {
+            core: CoreNumber::new(0).unwrap(),
+            mark: Mark::Completed,
+            count: UnitCount::new(0).unwrap(),
+        }
+    }
+}
+
 // An entry of the outlet: a word sent on a channel.
 #[derive(Clone, Copy, PartialEq, Eq, Debug)]
 pub struct SentEntry {

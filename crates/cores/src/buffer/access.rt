@@ -4,39 +4,33 @@ ghost use Rattle.model.specs.Lines.{holds, value_at, tagged, any_dirty, Distinct
 ghost use Rattle.cores.specs.Buffers.{index_of, dirty_index};
 
 use super::Buffer;
+use arrayvec::ArrayVec;
 use model::place::Line;
 
 impl Buffer {
-    // A buffer with no line in use.
+    // A buffer with no line.
     pub fn new() -> Buffer
         ensures { result ≡ [] }
     {
-        let unused = Line {
-            address: 0,
-            value: 0,
-            tag: false,
-            dirty: false,
-        };
         Buffer {
-            lines: [unused; 32],
-            used: 0,
+            lines: ArrayVec::new(),
         }
     }
 
-    // The lines in use, oldest first.
+    // The lines, oldest first.
     pub(super) fn lines(&self) -> &[Line]
         ensures value { result.now ≡ self.now }
         ensures few { length self.now ≤ 32 }
         ensures apart { Distinct self.now }
     {
-        &self.lines[..self.used]
+        self.lines.as_slice()
     }
 
-    // How many lines are in use.
+    // How many lines there are.
     pub fn len(&self) -> usize
         ensures { result ≡ length self.now }
     {
-        self.used
+        self.lines.len()
     }
 
     // Where the line at an address stands, or None where there is none.

@@ -8,13 +8,13 @@ use model::place::Line;
 
 impl Buffer {
     // Makes one more line, at an address that has none.
+    #[tactic(auto, using(crate::proofs::Buffers::distinct_push))]
     pub(crate) fn push(&mut self, line: Line)
         requires room { length self.old < 32 }
         requires fresh { holds self.old line.address ≡ false }
         ensures { self.new ≡ self.old ++ line ∷ [] }
     {
-        self.lines[self.used] = line;
-        self.used += 1;
+        self.lines.push(line);
     }
 
     // Puts another word into the line at an address, which is dirty then; its tag stays as it is. Answers whether there is one.
@@ -47,10 +47,10 @@ impl Buffer {
         }
     }
 
-    // Empties the buffer: no line is in use.
+    // Empties the buffer.
     pub fn clear(&mut self)
         ensures { self.new ≡ [] }
     {
-        self.used = 0;
+        self.lines.clear();
     }
 }

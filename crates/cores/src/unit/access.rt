@@ -15,6 +15,18 @@ use model::refusal::TagsRefusal;
 use model::state::{Look, State};
 use program::program::Program;
 
+// What stands where a table has no core: a new core at instruction 0.
+impl Default for Core {
+    ghost use Rattle.std.specs.Prelude.{◌≡◌};
+    ghost use Rattle.model.specs.Engine.{new_core};
+
+    ghost is_default = { λ c. c ≡ new_core 0 };
+
+    fn default() -> Core {
+        Core::at(0).unwrap()
+    }
+}
+
 impl Core {
     // A new core in BYPASS at an entry place, or None where the place is above 511.
     pub fn at(pc: usize) -> Option<Core>

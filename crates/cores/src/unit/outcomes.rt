@@ -25,14 +25,6 @@ fn free_from(token: Token, me: CoreNumber) -> Token
     }
 }
 
-// How many instructions a unit performed.
-fn unit_count(count: u32) -> UnitCount
-    requires { count ≤ 4096 }
-    ensures { result.value ≡ count }
-{
-    UnitCount::new(count).unwrap()
-}
-
 impl Core {
     // Only the core changes, to this one.
     pub(super) fn becomes(&self, scene: Scene, answer: Answer) -> Outcome
@@ -78,7 +70,7 @@ impl Core {
         let entry = RecordEntry {
             core: scene.me,
             mark,
-            count: unit_count(count),
+            count: UnitCount::new(count).unwrap(),
         };
         Outcome {
             effect,
