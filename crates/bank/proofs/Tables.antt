@@ -1,9 +1,9 @@
 -- Telling the other cores of a write, one core after the other.
 -- Assumes nothing.
-use Rattle.std.proofs.Common.{◌≡◌, ℕ, zero, suc, ◌+◌, ◌<◌, ◌≤◌, true, false, ltb, leb, List, [], ◌∷◌, ◌++◌, map, length, get_or, take, drop, set, sym, refl, ap, ◌∙◌, append_assoc, append-nil, le_of_suc-le-suc, arith, length-set, length-take-le, take_all, le-ltb, lt-ltb}
+use Rattle.std.proofs.Common.{◌≡◌, ℕ, zero, suc, ◌+◌, ◌<◌, ◌≤◌, true, false, ltb, leb, List, [], ◌∷◌, ◌++◌, map, length, get_or, take, drop, set, sym, refl, ap, ◌∙◌, append_assoc, append-nil, le_of_suc-le-suc, arith, length-take-le, take_all, le-ltb, lt-ltb}
 use lib.Seq.{set_at, get_or_at}
-use Rattle.std.proofs.lemmas.List.{length-map, take_more, take_more_set, drop_more, drop_all, get_or-map, map_push, take-map}
-use Rattle.std.proofs.lemmas.Bool.{and_from, and_parts, and_left, and_right}
+use Rattle.std.proofs.lemmas.List.{length-map, take_more, drop_more, drop_all, get_or-map, map_push}
+use Rattle.std.proofs.lemmas.Bool.{and_from, and_parts, and_left, and_right, le-leb}
 use Rattle.model.specs.Cores.{Core}
 use Rattle.model.specs.Engine.{blank, all_below, new_core}
 use Rattle.bank.specs.Tables.{placeable, hit_at, others_hit}
@@ -77,32 +77,32 @@ below_not [] i n h le = absurd (omega arith)
 below_not (q ∷ ps) zero n h le = and_left (ltb q n) (all_below ps n) (le-ltb q n le)
 below_not (q ∷ ps) (suc i) n h le = and_right (ltb q n) (all_below ps n) (below_not ps i n (le_of_suc-le-suc h) le)
 
--- a table being filled: so many new cores stand in front
+-- new cores at the first so many places
 pub record Filled (cores : List Core) (places : List ℕ) (i : ℕ) : Type 0 where
-  pub sized : length cores ≡ 8
-  pub made : take i cores ≡ map new_core (take i places)
+  pub made : cores ≡ map new_core (take i places)
   pub below : all_below (take i places) 512 ≡ true
 
+pub filled_length : (cores : List Core) (places : List ℕ) (i : ℕ) → i ≤ length places → Filled cores places i → length cores ≡ i
+filled_length cores places i h f = ap length f.made ∙ length-map (take i places) new_core ∙ length-take-le i places h
+
 -- one more
-pub filled_more : (cores : List Core) (places : List ℕ) (i : ℕ) (c : Core) → length places ≤ 8 → i < length places → get_or places i 0 ≤ 511 → c ≡ new_core (get_or places i 0) → Filled cores places i → Filled (set cores i c) places (i + 1)
-filled_more cores places i c few h low is f =
-    let more = take_more places i 0 h in
+pub filled_more : (cores more : List Core) (places : List ℕ) (i : ℕ) (c : Core) → i < length places → get_or places i 0 ≤ 511 → c ≡ new_core (get_or places i 0) → more ≡ cores ++ (c ∷ []) → Filled cores places i → Filled more places (i + 1)
+filled_more cores more places i c h low is pushed f =
+    let next = take_more places i 0 h in
     record {
-      sized = length-set cores i c ∙ f.sized;
-      made = take_more_set cores i c (omega (arith, f.sized)) ∙ ap (λ l. l ++ (c ∷ [])) f.made ∙ ap (λ x. map new_core (take i places) ++ (x ∷ [])) is ∙ sym (map_push new_core (take i places) (get_or places i 0)) ∙ ap (map new_core) (sym more);
-      below = ap (λ l. all_below l 512) more ∙ below_push (take i places) (get_or places i 0) 512 f.below (omega arith);
+      made = pushed ∙ ap (λ l. l ++ (c ∷ [])) f.made ∙ ap (λ x. map new_core (take i places) ++ (x ∷ [])) is ∙ sym (map_push new_core (take i places) (get_or places i 0)) ∙ ap (map new_core) (sym next);
+      below = ap (λ l. all_below l 512) next ∙ below_push (take i places) (get_or places i 0) 512 f.below (omega arith);
     }
+
+-- all
+pub filled_all : (cores : List Core) (places : List ℕ) (i : ℕ) → i ≡ length places → length places ≤ 8 → Filled cores places i → (placeable places ≡ true) × (cores ≡ map new_core places)
+filled_all cores places i all few f =
+    let whole : take i places ≡ places = take_all i places (omega arith) in
+    (and_from (leb (length places) 8) (all_below places 512) (le-leb (length places) 8 few) (ap (λ l. all_below l 512) (sym whole) ∙ f.below), f.made ∙ ap (map new_core) whole)
 
 -- a place above 511
 pub not_placeable_high : (places : List ℕ) (i : ℕ) → i < length places → 511 < get_or places i 0 → placeable places ≡ false
 not_placeable_high places i h high = and_right (leb (length places) 8) (all_below places 512) (below_not places i 512 h (omega arith))
-
--- the cores in use are told where all are
-pub hit_take : (w a n : ℕ) (cs : List Core) → take n (others_hit w a cs) ≡ others_hit w a (take n cs)
-hit_take w a zero cs = refl
-hit_take w a (suc n) [] = refl
-hit_take zero a (suc n) (c ∷ cs) = ap (λ l. c ∷ l) (take-map (hit_at a) n cs)
-hit_take (suc w) a (suc n) (c ∷ cs) = ap (λ l. hit_at a c ∷ l) (hit_take w a n cs)
 
 -- telling the others after the writer has moved, or before it
 pub told_after : (w a : ℕ) (cs : List Core) (c : Core) → others_hit w a (set cs w c) ≡ set (map (hit_at a) cs) w c

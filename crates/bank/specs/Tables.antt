@@ -1,23 +1,12 @@
--- The table of cores as the list of the model's, and what a written word does to the others.
+-- For which entry places a table can be made, and what a written word does to the other cores.
 -- Assumes nothing.
-use Rattle.std.specs.Prelude.{◌≡◌, ℕ, zero, suc, Bool, ◌&&◌, List, [], ◌∷◌, map, length, take, nat_le}
+use Rattle.std.specs.Prelude.{ℕ, zero, suc, Bool, ◌&&◌, List, [], ◌∷◌, map, length, nat_le}
 use Rattle.model.specs.Cores.{Core}
-use Rattle.model.specs.Engine.{struck_at, all_below, new_core}
-use Rattle.bank.specs.declared.table.Table.{Table}
-
--- the cores in use
-abbrev pub cores_of : Table → List Core
-cores_of t = take t.count t.cores
+use Rattle.model.specs.Engine.{struck_at, all_below}
 
 -- entry places for which a table can be made
 abbrev pub placeable : List ℕ → Bool
 placeable places = nat_le (length places) 8 && all_below places 512
-
--- a table of new cores at some entry places
-pub record NewTable (t : Table) (places : List ℕ) : Type 0 where
-  pub count : t.count ≡ length places
-  pub cores : cores_of t ≡ map new_core places
-  pub sized : length t.cores ≡ 8
 
 -- a core once another has written the word at an address
 abbrev pub hit_at : ℕ → Core → Core

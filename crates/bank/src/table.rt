@@ -1,53 +1,85 @@
 // The table of an engine's cores.
-ghost use Rattle.std.specs.Prelude.{◌≡◌, true, false, [], length, MatchOption};
-ghost use Rattle.bank.specs.Tables.{cores_of, placeable, NewTable, others_hit};
+ghost use Rattle.std.specs.Prelude.{◌≡◌, ◌≤◌, true, false, [], length, map, slice_get, MatchOption};
+ghost use Rattle.std.specs.Option.{option_copied};
+ghost use Rattle.std.specs.Slice.{IsItemAt};
+ghost use Rattle.model.specs.Engine.{new_core};
+ghost use Rattle.std.specs.List.{IsItemAtMut};
+ghost use Rattle.std.specs.Borrow.{sem};
+ghost use Rattle.bank.specs.Tables.{placeable, others_hit};
+ghost use Rattle.bank.specs.Lending.{LendsCore};
 
+use arrayvec::ArrayVec;
 use cores::unit::Core;
-use std::array;
+use std::marker::Model;
 
-// Eight cores, of which the first `count` are in use. An array with a count: the table allocates nothing, and lends a core.
+// At most eight cores.
 #[derive(Drop)]
 pub struct Table {
-    pub cores: [Core; 8],
-    pub count: usize,
+    cores: ArrayVec<Core, 8>,
+}
+
+// Seen as the list of its cores.
+impl Model for Table {
+    ghost use Rattle.std.specs.Prelude.{List};
+    ghost use Rattle.model.specs.Cores.{Core as ModelCore};
+
+    ghost Value = { List ModelCore };
+
+    ghost view = { λ t. t.cores.items };
 }
 
 impl Table {
-    // A table with no core in use.
+    // A table with no core.
     pub fn empty() -> Table
-        ensures count { result.count ≡ 0 }
-        ensures cores { cores_of result ≡ [] }
-        ensures sized { length result.cores ≡ 8 }
+        ensures { result ≡ [] }
     {
         Table {
-            cores: array::from_fn(|_| Core::at(0).unwrap()),
-            count: 0,
+            cores: ArrayVec::new(),
         }
     }
 
     // A new core at each of some entry places. None where there are more than 8 places, or one is above 511.
     pub fn new(places: &[usize]) -> Option<Table>
-        ensures { MatchOption result (placeable places.now ≡ false) (λ t. (placeable places.now ≡ true) × NewTable t places.now) }
+        ensures { MatchOption result (placeable places.now ≡ false) (λ t. (placeable places.now ≡ true) × (t ≡ map new_core places.now)) }
     {
         if places.len() > 8 {
             return None;
         }
-        let mut cores = Table::empty().cores;
-        for (i, place) in places.iter().enumerate() {
-            cores[i] = Core::at(*place)?;
+        let mut cores = ArrayVec::new();
+        for place in places {
+            cores.push(Core::at(*place)?);
         }
-        Some(Table {
-            cores,
-            count: places.len(),
-        })
+        Some(Table { cores })
+    }
+
+    // How many cores there are, at most 8.
+    pub fn len(&self) -> usize
+        ensures value { result ≡ length self.now }
+        ensures few { result ≤ 8 }
+    {
+        self.cores.len()
+    }
+
+    // A core by its number, or None where there is no such core.
+    pub fn get(&self, i: usize) -> Option<&Core>
+        ensures value { option_copied result ≡ slice_get self.now i }
+        ensures item { IsItemAt self.now i result }
+        ensures few { length self.now ≤ 8 }
+    {
+        self.cores.as_slice().get(i)
+    }
+
+    // The same, for changing it: what is left behind the reference is the core then.
+    pub fn get_mut(&mut self, i: usize) -> Option<&mut Core>
+        ensures* writes_back { sem 𝓛 (LendsCore self.entry i result) }
+        ensures item { IsItemAtMut self.old i result }
+    {
+        self.cores.get_mut(i)
     }
 
     // A core has written the word at an address: the others are told.
-    #[tactic(auto, using(crate::proofs::Tables::hit_take))]
     pub fn tell_others(&mut self, writer: usize, address: usize)
-        ensures cores { cores_of self.new ≡ others_hit writer address (cores_of self.old) }
-        ensures count { self.new.count ≡ self.old.count }
-        ensures sized { length self.new.cores ≡ length self.old.cores }
+        ensures { self.new ≡ others_hit writer address self.old }
     {
         broadcast(&mut self.cores, writer, address);
     }

@@ -1,4 +1,3 @@
 pub mod Making
-pub mod Moving
 pub mod Rooms
 pub mod Applying

@@ -5,7 +5,7 @@
 --   playable           the calls of a list that are played
 --   held_as, given_as  a hold's and a giving back's answer, the pass left out
 -- Assumes nothing.
-use Rattle.std.specs.Prelude.{◌≡◌, ◌<◌, ◌≤◌, Bool, true, false, List, length, take, Ok, Err, Result}
+use Rattle.std.specs.Prelude.{◌<◌, ◌≤◌, Bool, true, false, List, length, take, Ok, Err, Result}
 use Rattle.memory.specs.declared.shared.Memory.{Ghosts as MemoryGhosts}
 use Rattle.outlet.specs.declared.waiting.Outlet.{Ghosts as OutletGhosts}
 use Rattle.model.specs.declared.refusal.HoldRefusal.{HoldRefusal}
@@ -15,7 +15,6 @@ use Rattle.model.specs.declared.call.Reply.{Reply}
 use Rattle.model.specs.declared.state.Token.{Token}
 use Rattle.model.specs.declared.state.Token.TheVariants.{Free, Core as CoreHas, Host}
 use Rattle.model.specs.Engine.{Engine as ModelEngine, Outlet as ModelOutlet, Settings as ModelSettings}
-use Rattle.bank.specs.Tables.{cores_of}
 use Rattle.engine.specs.declared.engine.Engine.TheInside.{Inside}
 use Rattle.engine.specs.declared.pass.Pass.{Pass}
 use Rattle.engine.specs.declared.settings.Settings.{Settings}
@@ -31,18 +30,16 @@ engine_of m o e = record {
   capacity = e.capacity;
   memory = m.words e.memory;
   outlet = outlet_of o e.outlet;
-  cores = cores_of e.table;
+  cores = e.table;
   token = e.token;
   entries = e.log;
   next = e.next;
 }
 
--- what is true of every engine: at most eight cores are in use, of a table of eight; a core has at most 32 lines; and the
--- core that turn steps next is one of eight, or the one past them
+-- what is true of every engine: a core has at most 32 lines, and the core that turn steps next is one of eight, or the one
+-- past them
 pub record InRange {M O : Type 0} (e : Inside M O) : Type 0 where
-  pub few : e.table.count ≤ 8
-  pub sized : length e.table.cores ≡ 8
-  pub lines : 0 < e.table.count → e.capacity ≤ 32
+  pub lines : 0 < length e.table → e.capacity ≤ 32
   pub soon : e.next ≤ 8
 
 -- what an engine is made from besides memory and outlet

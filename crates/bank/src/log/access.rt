@@ -5,8 +5,8 @@ ghost use Rattle.cores.specs.Units.{turn_of};
 ghost use Rattle.bank.specs.Logs.{recorded, as_turn};
 
 use super::Log;
-use formats::below::{CoreNumber, UnitCount};
-use formats::entry::{Mark, RecordEntry};
+use arrayvec::ArrayVec;
+use formats::entry::RecordEntry;
 use model::refusal::RecordRefusal;
 
 impl Log {
@@ -14,14 +14,8 @@ impl Log {
     pub fn new() -> Log
         ensures { result ≡ [] }
     {
-        let unused = RecordEntry {
-            core: CoreNumber::new(0).unwrap(),
-            mark: Mark::Completed,
-            count: UnitCount::new(0).unwrap(),
-        };
         Log {
-            entries: [unused; 1024],
-            len: 0,
+            entries: ArrayVec::new(),
         }
     }
 
@@ -30,7 +24,7 @@ impl Log {
         ensures value { map turn_of result.now ≡ self.now }
         ensures few { length result.now ≤ 1024 }
     {
-        &self.entries[..self.len]
+        self.entries.as_slice()
     }
 
     // How many entries it has, at most 1,024.
@@ -45,12 +39,8 @@ impl Log {
     pub fn add(&mut self, entry: Option<RecordEntry>)
         ensures { self.new ≡ recorded self.old entry }
     {
-        let Some(entry) = entry else {
-            return;
-        };
-        if self.len < 1024 {
-            self.entries[self.len] = entry;
-            self.len += 1;
+        if let Some(entry) = entry {
+            let _ = self.entries.try_push(entry);
         }
     }
 
@@ -58,17 +48,16 @@ impl Log {
     pub fn get(&self, place: usize) -> Result<RecordEntry, RecordRefusal>
         ensures { as_turn result ≡ entry_in self.now place }
     {
-        if place < self.len {
-            Ok(self.entries[place])
-        } else {
-            Err(RecordRefusal::NotFilled)
-        }
+        self.as_slice()
+            .get(place)
+            .copied()
+            .ok_or(RecordRefusal::NotFilled)
     }
 
     // Empties the record.
     pub fn clear(&mut self)
         ensures { self.new ≡ [] }
     {
-        self.len = 0;
+        self.entries.clear();
     }
 }

@@ -7,6 +7,7 @@ ghost use Rattle.engine.specs.Engines.{held_as, given_as};
 use super::Engine;
 use crate::pass::Pass;
 use answers::refusal::NothingWaits;
+use cores::unit::Core;
 use formats::entry::{RecordEntry, SentEntry};
 use memory::shared::Memory;
 use model::refusal::{
@@ -99,20 +100,13 @@ impl<M: Memory, O: Outlet> Engine<M, O> {
     pub fn look(&self, i: usize) -> Option<Look>
         ensures { result ≡ look self.now i }
     {
-        if i < self.table.count {
-            Some(self.table.cores[i].look())
-        } else {
-            None
-        }
+        self.table.get(i).map(Core::look)
     }
 
     // Copies a core's tagged addresses to the first places of a list, each once, and answers their number.
     pub fn tags(&self, i: usize, list: &mut [usize]) -> Result<usize, TagsRefusal>
         ensures { Tags self.now i list.old list.new result }
     {
-        if i >= self.table.count {
-            return Err(TagsRefusal::NoSuchCore);
-        }
-        self.table.cores[i].tags(list)
+        self.table.get(i).ok_or(TagsRefusal::NoSuchCore)?.tags(list)
     }
 }

@@ -1,6 +1,5 @@
 // Making an engine from settings.
 ghost use Rattle.std.specs.Prelude.{◌≡◌, ◌<◌, ◌≤◌, length};
-ghost use Rattle.bank.specs.Tables.{cores_of};
 ghost use Rattle.model.specs.Engine.{check, new_cores, make};
 ghost use Rattle.engine.specs.Engines.{outlet_of, settings_of};
 
@@ -14,10 +13,8 @@ use outlet::waiting::Outlet;
 
 // The cores of a new engine: none where the settings are refused.
 fn new_cores(settings: Settings<'_>, words: usize) -> Table
-    ensures cores { cores_of result ≡ new_cores (check (settings_of settings.entry) words) settings.entry.places.now }
-    ensures few { result.count ≤ 8 }
-    ensures sized { length result.cores ≡ 8 }
-    ensures lines { 0 < result.count → settings.entry.lines ≤ 32 }
+    ensures cores { result ≡ new_cores (check (settings_of settings.entry) words) settings.entry.places.now }
+    ensures lines { 0 < length result → settings.entry.lines ≤ 32 }
 {
     if settings.check(words).is_err() {
         return Table::empty();

@@ -13,14 +13,6 @@ use memory::shared::Memory;
 use model::effect::Effect;
 use outlet::waiting::Outlet;
 
-// A core's number, of those that an engine can have.
-fn number(i: usize) -> CoreNumber
-    requires { i < 8 }
-    ensures { result.value ≡ i }
-{
-    CoreNumber::new(i as u32).unwrap()
-}
-
 impl<M: Memory, O: Outlet> Engine<M, O> {
     // The word at an address, 0 where there is none: a step sees one word of the memory, whatever its instruction is.
     fn word_or_zero(&self, address: usize) -> u32
@@ -34,8 +26,8 @@ impl<M: Memory, O: Outlet> Engine<M, O> {
         requires { i < length self.now.cores }
         ensures { scene_view self.now.program result ≡ scene_of self.now i }
     {
-        let program = &self.program;
-        let address = self.table.cores[i].load_address(program);
+        let core = self.table.get(i).unwrap();
+        let address = core.load_address(&self.program);
         let word = self.word_or_zero(address);
         Scene {
             capacity: self.capacity,
@@ -43,7 +35,7 @@ impl<M: Memory, O: Outlet> Engine<M, O> {
             word,
             room: self.outlet.room(),
             token: self.token,
-            me: number(i),
+            me: CoreNumber::new(i as u32).unwrap(),
         }
     }
 
@@ -52,8 +44,8 @@ impl<M: Memory, O: Outlet> Engine<M, O> {
         requires { i < length self.old.cores }
         ensures { Moved self.old self.new i result (outcome (scene_view self.old.program scene) (core_at self.old i)) }
     {
-        let table = &mut self.table;
-        table.cores[i].step(&self.program, scene)
+        let core = self.table.get_mut(i).unwrap();
+        core.step(&self.program, scene)
     }
 
     // The rest of the engine takes what a core's move came to.

@@ -49,7 +49,7 @@ impl<M: Memory, O: Outlet> Engine<M, O> {
         ensures after { self.new ≡ (step self.old i).engine }
         ensures answer { result ≡ (step self.old i).answer }
     {
-        if i >= self.table.count {
+        if i >= self.table.len() {
             return Err(StepRefusal::NoSuchCore);
         }
         if self.log.len() + wanted(self.token, i) > MOST_ENTRIES {
@@ -64,7 +64,7 @@ impl<M: Memory, O: Outlet> Engine<M, O> {
         ensures answer { result ≡ (turn self.old).answer }
     {
         let answer = self.step(self.next)?;
-        self.next = following(self.next, self.table.count);
+        self.next = following(self.next, self.table.len());
         Ok(answer)
     }
 }

@@ -1,15 +1,15 @@
-use Rattle.std.proofs.Common.{List, ap, ◌∙◌, arith}
+use Rattle.std.proofs.Common.{List, ap, ◌∙◌}
+use Rattle.std.specs.Option.{ok_or}
+use Rattle.model.specs.declared.refusal.RecordRefusal.TheVariants.{NotFilled}
 use Rattle.model.specs.OneAtATime.{Turn}
 use Rattle.model.specs.Calls.{entry_in}
-use Rattle.bank.proofs.Logs.{turn_at, turn_past}
+use Rattle.bank.specs.Logs.{as_turn}
+use Rattle.bank.proofs.Logs.{looked_up, lent}
 use Rattle.bank.proofs.log.Log.get.Goals as goal
 
-pub returns-then-place-self : goal.returns-then-place-self
-returns-then-place-self c =
-    let l = c.self.inside in
-    turn_at l.entries l.len c.args.place _ (omega (arith, c.self.invariant)) (omega arith) ∙ ap (λ (ts : List Turn). entry_in ts c.args.place) c.self.view_is
-
-pub returns-else-place-self : goal.returns-else-place-self
-returns-else-place-self c =
-    let l = c.self.inside in
-    turn_past l.entries l.len c.args.place (omega (arith, c.self.invariant)) (omega arith) ∙ ap (λ (ts : List Turn). entry_in ts c.args.place) c.self.view_is
+pub returns : goal.returns
+returns c =
+    let es = c.as_slice.result.now in
+    let place = c.args.place in
+    ap as_turn (c.ok_or.ensures.value ∙ ap (λ o. ok_or o NotFilled) (c.copied.ensures ∙ lent es place c.get.result c.get.ensures.lookup))
+    ∙ looked_up es place ∙ ap (λ (ts : List Turn). entry_in ts place) c.as_slice.ensures.value

@@ -1,5 +1,5 @@
 use Rattle.bank.proofs.Tables.{Filled}
 use Rattle.bank.proofs.table.Table.new.Given as goal
 
-abbrev pub invariant-loop-i : goal.invariant-loop-i
-invariant-loop-i l = Filled l.cores l.places l.i
+abbrev pub invariant-loop-place : goal.invariant-loop-place
+invariant-loop-place l = Filled l.cores.items l.places l.place-index
