@@ -3,7 +3,7 @@ ghost use Rattle.std.specs.Prelude.{◌≡◌, length};
 ghost use Rattle.model.specs.Engine.{make};
 ghost use Rattle.model.specs.Journal.{history};
 ghost use Rattle.model.specs.Laws.{Lawful};
-ghost use Rattle.engine.specs.Engines.{outlet_of, settings_of};
+ghost use Rattle.engine.specs.Engines.{outlet_of};
 ghost use Rattle.wire.specs.Calls.{call_of};
 ghost use Rattle.bench.specs.Playing.{answered, after, calls_in, words_played, answers_left};
 
@@ -41,10 +41,10 @@ pub fn play_packed<M: Memory, O: Outlet>(
     calls: &[u8],
     answers: &mut [u8],
 ) -> Played<M, O>
-    ensures engine { result.desk ≡ (history (settings_of settings.entry) (M.Memory.words memory) (outlet_of O.Outlet outlet) (calls_in (words_played calls.now answers.old))).engine }
+    ensures engine { result.desk ≡ (history settings.entry (M.Memory.words memory) (outlet_of O.Outlet outlet) (calls_in (words_played calls.now answers.old))).engine }
     ensures count { result.count ≡ length (words_played calls.now answers.old) }
-    ensures answers { answers.new ≡ answers_left (make (settings_of settings.entry) (M.Memory.words memory) (outlet_of O.Outlet outlet)) (words_played calls.now answers.old) answers.old }
-    ensures lawful { Lawful (settings_of settings.entry) (M.Memory.words memory) (outlet_of O.Outlet outlet) (calls_in (words_played calls.now answers.old)) }
+    ensures answers { answers.new ≡ answers_left (make settings.entry (M.Memory.words memory) (outlet_of O.Outlet outlet)) (words_played calls.now answers.old) answers.old }
+    ensures lawful { Lawful settings.entry (M.Memory.words memory) (outlet_of O.Outlet outlet) (calls_in (words_played calls.now answers.old)) }
 {
     let mut desk = Desk::make(settings, memory, outlet);
     let (words, _) = calls.as_chunks::<4>();
@@ -67,8 +67,8 @@ pub(crate) fn play_to_end<M: Memory + Drop, O: Outlet + Drop>(
     answers: &mut [u8],
 ) -> usize
     ensures count { result ≡ length (words_played calls.now answers.old) }
-    ensures answers { answers.new ≡ answers_left (make (settings_of settings.entry) (M.Memory.words memory) (outlet_of O.Outlet outlet)) (words_played calls.now answers.old) answers.old }
-    ensures lawful { Lawful (settings_of settings.entry) (M.Memory.words memory) (outlet_of O.Outlet outlet) (calls_in (words_played calls.now answers.old)) }
+    ensures answers { answers.new ≡ answers_left (make settings.entry (M.Memory.words memory) (outlet_of O.Outlet outlet)) (words_played calls.now answers.old) answers.old }
+    ensures lawful { Lawful settings.entry (M.Memory.words memory) (outlet_of O.Outlet outlet) (calls_in (words_played calls.now answers.old)) }
 {
     let Played { desk, count } = play_packed(settings, memory, outlet, calls, answers);
     desk.close();

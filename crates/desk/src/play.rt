@@ -4,7 +4,7 @@ ghost use Rattle.model.specs.Engine.{make};
 ghost use Rattle.model.specs.Runs.{replies as model_replies};
 ghost use Rattle.model.specs.Journal.{history};
 ghost use Rattle.model.specs.Laws.{Lawful};
-ghost use Rattle.engine.specs.Engines.{outlet_of, settings_of, playable};
+ghost use Rattle.engine.specs.Engines.{outlet_of, playable};
 
 use crate::desk::Desk;
 use engine::settings::Settings;
@@ -22,9 +22,9 @@ pub fn play<M: Memory, O: Outlet>(
     calls: &[Call],
     replies: &mut [Reply],
 ) -> Desk<M, O>
-    ensures engine { result ≡ (history (settings_of settings.entry) (M.Memory.words memory) (outlet_of O.Outlet outlet) (playable calls.now replies.old)).engine }
-    ensures replies { replies.new ≡ model_replies (make (settings_of settings.entry) (M.Memory.words memory) (outlet_of O.Outlet outlet)) (playable calls.now replies.old) ++ drop (length (playable calls.now replies.old)) replies.old }
-    ensures lawful { Lawful (settings_of settings.entry) (M.Memory.words memory) (outlet_of O.Outlet outlet) (playable calls.now replies.old) }
+    ensures engine { result ≡ (history settings.entry (M.Memory.words memory) (outlet_of O.Outlet outlet) (playable calls.now replies.old)).engine }
+    ensures replies { replies.new ≡ model_replies (make settings.entry (M.Memory.words memory) (outlet_of O.Outlet outlet)) (playable calls.now replies.old) ++ drop (length (playable calls.now replies.old)) replies.old }
+    ensures lawful { Lawful settings.entry (M.Memory.words memory) (outlet_of O.Outlet outlet) (playable calls.now replies.old) }
 {
     let mut desk = Desk::make(settings, memory, outlet);
     let count = calls.len().min(replies.len());

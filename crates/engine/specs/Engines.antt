@@ -1,6 +1,5 @@
 -- An engine of the code as the model's, and the answers that carry a pass.
 --   engine_of          the engine
---   settings_of        what it is made from
 --   host_has           whether the host has the token
 --   playable           the calls of a list that are played
 --   held_as, given_as  a hold's and a giving back's answer, the pass left out
@@ -14,10 +13,9 @@ use Rattle.model.specs.declared.call.Call.{Call}
 use Rattle.model.specs.declared.call.Reply.{Reply}
 use Rattle.model.specs.declared.state.Token.{Token}
 use Rattle.model.specs.declared.state.Token.TheVariants.{Free, Core as CoreHas, Host}
-use Rattle.model.specs.Engine.{Engine as ModelEngine, Outlet as ModelOutlet, Settings as ModelSettings}
+use Rattle.model.specs.Engine.{Engine as ModelEngine, Outlet as ModelOutlet}
 use Rattle.engine.specs.declared.engine.Engine.TheInside.{Inside}
 use Rattle.engine.specs.declared.pass.Pass.{Pass}
-use Rattle.engine.specs.declared.settings.Settings.{Settings}
 
 -- what an outlet means
 abbrev pub outlet_of : {O : Type 0} → OutletGhosts O → O → ModelOutlet
@@ -41,10 +39,6 @@ engine_of m o e = record {
 pub record InRange {M O : Type 0} (e : Inside M O) : Type 0 where
   pub lines : 0 < length e.table → e.capacity ≤ 32
   pub soon : e.next ≤ 8
-
--- what an engine is made from besides memory and outlet
-abbrev pub settings_of : Settings → ModelSettings
-settings_of s = record { program = s.program.now; places = s.places.now; lines = s.lines }
 
 -- what a hold answers, the pass left out
 abbrev pub held_as : Result Pass HoldRefusal → Result (Unit {0}) HoldRefusal

@@ -3,17 +3,26 @@ ghost use Rattle.std.specs.Prelude.{◌≡◌, true, false};
 ghost use Rattle.std.specs.Result.{is_err};
 ghost use Rattle.bank.specs.Tables.{placeable};
 ghost use Rattle.model.specs.Engine.{all_below, check};
-ghost use Rattle.engine.specs.Engines.{settings_of};
 
 use model::refusal::CheckRefusal;
 use program::program::Program;
+use std::marker::Model;
 
 // A program, the places where its cores begin, and how many lines each core has.
-#[derive(Clone, Copy)]
+#[derive(Drop)]
 pub struct Settings<'a> {
     pub program: &'a Program,
     pub places: &'a [usize],
     pub lines: usize,
+}
+
+// Seen as the model's settings: what they refer to, and not where that lies.
+impl<'a> Model for Settings<'a> {
+    ghost use Rattle.model.specs.Engine.{Settings as ModelSettings};
+
+    ghost Value = { ModelSettings };
+
+    ghost view = { λ s. record { program = s.program.now; places = s.places.now; lines = s.lines } };
 }
 
 // Whether every number is below a bound.
@@ -26,8 +35,8 @@ fn all_below(places: &[usize], bound: usize) -> bool
 impl Settings<'_> {
     // The first refusal, with a memory of so many words. Entry places that pass can be placed.
     pub fn check(&self, words: usize) -> Result<(), CheckRefusal>
-        ensures answer { result ≡ check (settings_of self.now) words }
-        ensures placeable { is_err result ≡ false → placeable self.now.places.now ≡ true }
+        ensures answer { result ≡ check self.now words }
+        ensures placeable { is_err result ≡ false → placeable self.now.places ≡ true }
     {
         if self.places.len() < 1 || self.places.len() > 8 {
             return Err(CheckRefusal::CoreCount);

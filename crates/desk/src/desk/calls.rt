@@ -3,7 +3,7 @@ ghost use Rattle.std.specs.Prelude.{◌≡◌};
 ghost use Rattle.bank.specs.Logs.{as_turn};
 ghost use Rattle.model.specs.Engine.{make};
 ghost use Rattle.model.specs.Calls.{step, turn, clear, hold, read, give_back, take_oldest, entry, holder, look, Tags};
-ghost use Rattle.engine.specs.Engines.{outlet_of, settings_of};
+ghost use Rattle.engine.specs.Engines.{outlet_of};
 
 use super::Desk;
 use answers::answer::Answer;
@@ -22,7 +22,7 @@ use outlet::waiting::Outlet;
 impl<M: Memory, O: Outlet> Desk<M, O> {
     // A new engine, which the host does not hold.
     pub fn make(settings: Settings<'_>, memory: M, outlet: O) -> Desk<M, O>
-        ensures { result ≡ make (settings_of settings.entry) (M.Memory.words memory) (outlet_of O.Outlet outlet) }
+        ensures { result ≡ make settings.entry (M.Memory.words memory) (outlet_of O.Outlet outlet) }
     {
         Desk {
             engine: Engine::make(settings, memory, outlet),

@@ -4,7 +4,7 @@ use Rattle.memory.specs.Bytes.{words_in}
 use Rattle.memory.proofs.Quads.{words_length, pasted_part}
 use Rattle.model.specs.Engine.{make}
 use Rattle.laws.proofs.Laws.{lawful, is_played}
-use Rattle.engine.specs.Engines.{outlet_of, settings_of}
+use Rattle.engine.specs.Engines.{outlet_of}
 use Rattle.bench.specs.Playing.{calls_in, words_played}
 use Rattle.bench.proofs.Played.{chunk_word, sofar_none, sofar_more, sofar_all}
 use Rattle.bench.proofs.play.play_packed.Goals as goal
@@ -33,7 +33,7 @@ pub returns : goal.returns
 returns g c =
     let calls = c.args.calls.now in
     let olds = c.args.answers.now in
-    let s = settings_of c.args.settings in
+    let s = c.args.settings in
     let m = g.M.Memory.words c.args.memory in
     let o = outlet_of g.O.Outlet c.args.outlet in
     let long = length-take-le c.min-count.result c.as_chunks.result.0.now (omega (arith, c.min-count.ensures)) in

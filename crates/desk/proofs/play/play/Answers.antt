@@ -4,7 +4,7 @@ use Rattle.model.specs.declared.call.Call.TheVariants.{Step}
 use Rattle.model.specs.Engine.{Engine as ModelEngine}
 use Rattle.model.specs.Runs.{reply, played, plays, replies}
 use Rattle.laws.proofs.Laws.{lawful, is_played}
-use Rattle.engine.specs.Engines.{outlet_of, settings_of, playable}
+use Rattle.engine.specs.Engines.{outlet_of, playable}
 use Rattle.desk.proofs.Playing.{sofar_more, sofar_all}
 use Rattle.desk.proofs.play.play.Goals as goal
 
@@ -22,7 +22,7 @@ pub returns : goal.returns
 returns g c =
     let calls = c.args.calls.now in
     let olds = c.args.replies.now in
-    let s = settings_of c.args.settings in
+    let s = c.args.settings in
     let m = g.M.Memory.words c.args.memory in
     let o = outlet_of g.O.Outlet c.args.outlet in
     let long = length-take-le c.min-count.result calls (omega (arith, c.min-count.ensures)) in

@@ -6,5 +6,5 @@ use Rattle.engine.proofs.settings.Settings.check.Goals as goal
 
 pub returns-clause-placeable : goal.returns-clause-placeable
 returns-clause-placeable c = λ _.
-    let ps = c.args.self.now.places.now in
-    and_from (leb (length ps) 8) (all_below ps 512) (le-leb (length ps) 8 (omega arith)) (below_wider ps c.len.result 512 c.len.ensures.few (sym c.if-not-all_below.ensures))
+    let ps = c.self.inside.places.now in
+    rw (← c.self.view_is) (and_from (leb (length ps) 8) (all_below ps 512) (le-leb (length ps) 8 (omega arith)) (below_wider ps c.len.result 512 c.len.ensures.few (sym c.if-not-all_below.ensures)))
