@@ -11,17 +11,24 @@ use formats::instruction::Instruction;
 use formats::register::Register;
 use model::place::Place;
 
+// What is asked of memory or outlet.
+#[derive(Clone, Copy, PartialEq, Eq, Debug)]
+pub enum Access {
+    // the word at an address, for register d
+    Load { address: usize, d: Register },
+    // that the word at an address becomes this one
+    Store { address: usize, word: u32 },
+    // that an entry is sent
+    Send(SentEntry),
+}
+
 // What an instruction asks for; all but Moves go on with the next instruction.
 #[derive(Clone, Copy, PartialEq, Eq, Debug)]
 pub enum Ask {
     // only pc and registers change, to these
     Moves(Place),
-    // the word at an address, for register d
-    Loads { address: usize, d: Register },
-    // that the word at an address becomes this one
-    Stores { address: usize, word: u32 },
-    // that an entry is sent
-    Sends(SentEntry),
+    // memory or outlet
+    Accesses(Access),
     // to open a block, to close one, to stop, to restart the block, to take the token now
     Begins,
     Ends,
@@ -116,14 +123,14 @@ impl Ask {
                 let sum = u64::from(read(&place, a)) + u64::from(read(&place, b));
                 Ask::Moves(put(place, d, (sum / 2) as u32))
             }
-            Instruction::Load { d, a, n } => Ask::Loads {
+            Instruction::Load { d, a, n } => Ask::Accesses(Access::Load {
                 address: address(&place, a, n),
                 d,
-            },
-            Instruction::Store { a, b, n } => Ask::Stores {
+            }),
+            Instruction::Store { a, b, n } => Ask::Accesses(Access::Store {
                 address: address(&place, a, n),
                 word: read(&place, b),
-            },
+            }),
             Instruction::Jump { n } => Ask::Moves(jump(place, n.value())),
             Instruction::Jz { a, n } => {
                 Ask::Moves(branch(place, read(&place, a) == 0, n.value()))
@@ -135,7 +142,9 @@ impl Ask {
             Instruction::End => Ask::Ends,
             Instruction::Retry => Ask::Retries,
             Instruction::Early => Ask::Earlies,
-            Instruction::Out { a, channel } => Ask::Sends(sent(channel, read(&place, a))),
+            Instruction::Out { a, channel } => {
+                Ask::Accesses(Access::Send(sent(channel, read(&place, a))))
+            }
         }
     }
 }

@@ -3,21 +3,17 @@ ghost use Rattle.std.specs.Prelude.{◌≡◌, ◌<◌, if◌then◌else◌, nat
 ghost use Rattle.answers.specs.declared.answer.Fault.TheVariants.{TooLong};
 ghost use Rattle.model.specs.Instructions.{outer, inner, closing, InnerFaults};
 ghost use Rattle.cores.specs.Asks.{ask_of, Onward};
-ghost use Rattle.cores.specs.Decisions.{outer_of, OnwardOuter, inner_of, OnwardInner};
+ghost use Rattle.cores.specs.Decisions.{inside, outer_of, OnwardOuter, inner_of, OnwardInner};
 
-use crate::ask::{Ask, next};
+use crate::ask::{Access, Ask, next};
 use answers::answer::Fault;
-use formats::entry::SentEntry;
-use formats::register::Register;
 use model::place::Place;
 
 // What an instruction comes to outside every block, if it has no fault.
 #[derive(Clone, Copy, PartialEq, Eq, Debug)]
 pub enum Outer {
     Moves(Place),
-    Loads { address: usize, d: Register },
-    Stores { address: usize, word: u32 },
-    Sends(SentEntry),
+    Accesses(Access),
     // a block is opened
     Opens,
     // the core stops
@@ -29,15 +25,25 @@ pub enum Outer {
 pub enum Inner {
     // the block goes on there with so many BEGINs open
     Moves { place: Place, depth: u32 },
-    Loads { address: usize, d: Register },
-    Stores { address: usize, word: u32 },
-    Sends(SentEntry),
+    Accesses(Access),
     // the block's first BEGIN is closed
     Closes,
     // the block is to start again
     Restarts,
     // the token is to be taken now
     TakesToken,
+}
+
+// The access, where a memory of so many words has the address that it names.
+fn inside(access: Access, words: usize) -> Result<Access, Fault>
+    ensures { result ≡ inside words access }
+{
+    match access {
+        Access::Load { address, .. } | Access::Store { address, .. } if address >= words => {
+            Err(Fault::AddressOutside)
+        }
+        _ => Ok(access),
+    }
 }
 
 impl Outer {
@@ -48,14 +54,9 @@ impl Outer {
         ensures onward { OnwardOuter place words result }
     {
         match ask {
-            Ask::Loads { address, .. } | Ask::Stores { address, .. } if address >= words => {
-                Err(Fault::AddressOutside)
-            }
             Ask::Ends | Ask::Retries | Ask::Earlies => Err(Fault::NoOpenBlock),
             Ask::Moves(place) => Ok(Outer::Moves(place)),
-            Ask::Loads { address, d } => Ok(Outer::Loads { address, d }),
-            Ask::Stores { address, word } => Ok(Outer::Stores { address, word }),
-            Ask::Sends(entry) => Ok(Outer::Sends(entry)),
+            Ask::Accesses(access) => Ok(Outer::Accesses(inside(access, words)?)),
             Ask::Begins => Ok(Outer::Opens),
             Ask::Halts => Ok(Outer::Stops),
         }
@@ -80,15 +81,10 @@ impl Inner {
             return Err(Fault::TooLong);
         }
         match ask {
-            Ask::Loads { address, .. } | Ask::Stores { address, .. } if address >= words => {
-                Err(Fault::AddressOutside)
-            }
             Ask::Begins if depth >= 255 => Err(Fault::TooDeep),
             Ask::Halts => Err(Fault::HaltInBlock),
             Ask::Moves(place) => Ok(Inner::Moves { place, depth }),
-            Ask::Loads { address, d } => Ok(Inner::Loads { address, d }),
-            Ask::Stores { address, word } => Ok(Inner::Stores { address, word }),
-            Ask::Sends(entry) => Ok(Inner::Sends(entry)),
+            Ask::Accesses(access) => Ok(Inner::Accesses(inside(access, words)?)),
             Ask::Begins => Ok(Inner::Moves {
                 place: next(place),
                 depth: depth + 1,

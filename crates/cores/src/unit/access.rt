@@ -8,7 +8,7 @@ ghost use Rattle.cores.specs.Tags.{LineTags};
 ghost use Rattle.cores.specs.Units.{load_address};
 
 use super::Core;
-use crate::ask::Ask;
+use crate::ask::{Access, Ask};
 use crate::buffer::Buffer;
 use model::place::Place;
 use model::refusal::TagsRefusal;
@@ -87,7 +87,7 @@ impl Core {
         ensures { result ≡ load_address program.now self.now.place }
     {
         match self.ask(program) {
-            Ask::Loads { address, d: _ } => address,
+            Ask::Accesses(Access::Load { address, d: _ }) => address,
             _ => 0,
         }
     }

@@ -7,7 +7,7 @@ ghost use Rattle.cores.specs.Steps.{scene_of, opened};
 ghost use Rattle.cores.specs.Units.{outcome_of};
 
 use super::Core;
-use crate::ask::{next, put};
+use crate::ask::{Access, next, put};
 use crate::decide::Outer;
 use crate::scene::{Outcome, Scene};
 use answers::answer::{Answer, Fault};
@@ -49,18 +49,17 @@ impl Core {
     {
         match outer {
             Err(fault) => self.faulted(scene, Mark::Discarded, 0, fault),
-            Ok(Outer::Loads { .. } | Outer::Stores { .. } | Outer::Sends(_))
-                if scene.token_taken() => { self.becomes(scene, Answer::Waiting) }
+            Ok(Outer::Accesses(_)) if scene.token_taken() => self.becomes(scene, Answer::Waiting),
             Ok(Outer::Moves(place)) => self.plain(scene, State::Bypass, place, Effect::Nothing),
-            Ok(Outer::Loads { address: _, d }) => {
+            Ok(Outer::Accesses(Access::Load { address: _, d })) => {
                 let place = put(self.place, d, scene.word);
                 self.plain(scene, State::Bypass, place, Effect::Nothing)
             }
-            Ok(Outer::Stores { address, word }) => {
+            Ok(Outer::Accesses(Access::Store { address, word })) => {
                 let effect = Effect::Wrote { address, word };
                 self.plain(scene, State::Bypass, next(self.place), effect)
             }
-            Ok(Outer::Sends(entry)) => self.plain_send(scene, entry),
+            Ok(Outer::Accesses(Access::Send(entry))) => self.plain_send(scene, entry),
             Ok(Outer::Opens) => {
                 self.open();
                 self.becomes(scene, Answer::Running)

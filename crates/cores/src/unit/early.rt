@@ -7,7 +7,7 @@ ghost use Rattle.cores.specs.Steps.{scene_of};
 ghost use Rattle.cores.specs.Units.{outcome_of};
 
 use super::Core;
-use crate::ask::{next, put};
+use crate::ask::{Access, next, put};
 use crate::decide::Inner;
 use crate::scene::{Outcome, Scene};
 use answers::answer::{Answer, Fault};
@@ -27,16 +27,19 @@ impl Core {
                 self.perform(place, depth);
                 self.becomes(scene, Answer::Running)
             }
-            Ok(Inner::Loads { address: _, d }) => {
+            Ok(Inner::Accesses(Access::Load { address: _, d })) => {
                 self.perform(put(self.place, d, scene.word), self.depth);
                 self.becomes(scene, Answer::Running)
             }
-            Ok(Inner::Stores { address, word }) => {
+            Ok(Inner::Accesses(Access::Store { address, word })) => {
                 self.perform(next(self.place), self.depth);
                 self.acts(scene, Effect::Wrote { address, word }, Answer::Running)
             }
-            Ok(Inner::Sends(_)) if scene.room == 0 => self.becomes(scene, Answer::Full),
-            Ok(Inner::Sends(entry)) => {
+            Ok(Inner::Accesses(Access::Send(_))) if scene.room == 0 => self.becomes(
+                scene,
+                Answer::Full,
+            ),
+            Ok(Inner::Accesses(Access::Send(entry))) => {
                 self.perform(next(self.place), self.depth);
                 self.acts(scene, Effect::Sent(entry), Answer::Running)
             }

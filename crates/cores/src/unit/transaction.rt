@@ -8,7 +8,7 @@ ghost use Rattle.cores.specs.Steps.{scene_of, loads_line, stores_line};
 ghost use Rattle.cores.specs.Units.{outcome_of};
 
 use super::Core;
-use crate::ask::{next, put};
+use crate::ask::{Access, next, put};
 use crate::decide::Inner;
 use crate::scene::{Outcome, Scene};
 use answers::answer::{Answer, Fault};
@@ -129,14 +129,16 @@ impl Core {
                 self.perform(place, depth);
                 self.becomes(scene, Answer::Running)
             }
-            Ok(Inner::Loads { address, d }) => self.loads(scene, address, d),
-            Ok(Inner::Stores { address, word }) => self.stores(scene, address, word),
+            Ok(Inner::Accesses(Access::Load { address, d })) => self.loads(scene, address, d),
+            Ok(Inner::Accesses(Access::Store { address, word })) => self.stores(
+                scene, address, word,
+            ),
             Ok(Inner::Closes) => self.closes(scene),
             Ok(Inner::Restarts) => {
                 self.roll_back();
                 self.becomes(scene, Answer::Retried)
             }
-            Ok(Inner::Sends(_) | Inner::TakesToken) => self.early(scene),
+            Ok(Inner::Accesses(Access::Send(_)) | Inner::TakesToken) => self.early(scene),
         }
     }
 }
