@@ -2,19 +2,16 @@
 ghost use Rattle.std.specs.Prelude.{Some};
 ghost use Rattle.digits.specs.Digits.{refused_text, refused_at_text};
 
-use answers::refusal::Refusal;
+use answers::refusal::{Placed, Refusal};
 use std::fmt;
 
 // A refusal, by the number of its question.
-#[derive(Clone, Copy, Drop)]
+#[derive(Clone, Copy, Drop, PartialEq, Eq, Debug)]
 pub struct Refused<R>(pub R);
 
-// A refusal that tells a place.
-#[derive(Clone, Copy, Drop)]
-pub struct RefusedAt<R> {
-    pub refusal: R,
-    pub place: usize,
-}
+// A refusal that tells its place.
+#[derive(Clone, Copy, Drop, PartialEq, Eq, Debug)]
+pub struct RefusedAt<F>(pub Placed<F>);
 
 impl<R: Refusal> fmt::Display for Refused<R> {
     ghost output = { λ r. Some (refused_text (R.Refusal.number r.0)) };
@@ -24,10 +21,10 @@ impl<R: Refusal> fmt::Display for Refused<R> {
     }
 }
 
-impl<R: Refusal> fmt::Display for RefusedAt<R> {
-    ghost output = { λ r. Some (refused_at_text (R.Refusal.number r.refusal) r.place) };
+impl<F: Refusal> fmt::Display for RefusedAt<F> {
+    ghost output = { λ r. Some (refused_at_text (F.Refusal.number r.0.fault) r.0.place) };
 
     fn fmt<W: fmt::Write>(&self, f: &mut fmt::Formatter<W>) -> fmt::Result {
-        write!(f, "refused {} at {}", self.refusal.number(), self.place)
+        write!(f, "refused {} at {}", self.0.number(), self.0.place)
     }
 }

@@ -12,10 +12,8 @@ fn read_pairs(heap: Global, token: &[u8]) -> Result<Option<Vec<u8>>, AllocError>
 {
     match hex::decode(heap, token) {
         Ok(bytes) => Ok(Some(bytes)),
-        Err(error) => match error {
-            FromHexError::OutOfMemory => Err(AllocError),
-            _ => Ok(None),
-        },
+        Err(error) if error == FromHexError::OutOfMemory => Err(AllocError),
+        Err(_) => Ok(None),
     }
 }
 

@@ -1,13 +1,13 @@
-use Rattle.std.proofs.Common.{inl, inr}
+use Rattle.std.proofs.Common.{inl, inr, rules}
 use Rattle.tokens.proofs.Pairs.{decoded, refused}
 use Rattle.tokens.proofs.bytes.read_pairs.Goals as goal
 
 pub returns-in-Ok : goal.returns-in-Ok
 returns-in-Ok c = decoded c.args.token.now _ c.in-Ok.ensures.ok
 
-pub returns-in_default : goal.returns-in_default
-returns-in_default c =
+pub returns-in-Err-2 : goal.returns-in-Err-2
+returns-in-Err-2 c =
     elim c.in-Err.ensures.err [
-      | inl memory ↦ absurd (c.in_default.not-OutOfMemory memory)
-      | inr is ↦ refused c.args.token.now c.in-Err.error is
+      | inl memory ↦ absurd (search rules)
+      | inr is ↦ refused c.args.token.now _ is
     ]
