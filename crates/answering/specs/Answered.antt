@@ -11,17 +11,20 @@ use Rattle.formats.specs.Records.{mark_number}
 use Rattle.model.specs.declared.refusal.ReadRefusal.{ReadRefusal}
 use Rattle.model.specs.declared.refusal.RecordRefusal.{RecordRefusal}
 use Rattle.model.specs.declared.refusal.TagsRefusal.{TagsRefusal}
+use Rattle.model.specs.declared.call.Reply.{Reply}
+use Rattle.model.specs.declared.call.Reply.TheVariants.{Stepped, Cleared, Held, Word, GivenBack, Taken}
 use Rattle.model.specs.Refusals.{hold_number, give_back_number, read_number, clear_number, record_number, tags_number}
 use Rattle.model.specs.OneAtATime.{Turn}
 use Rattle.model.specs.Engine.{Engine}
-use Rattle.model.specs.Calls.{hold, give_back, read, take_oldest, clear, entry, Tags, look, holder}
+use Rattle.model.specs.Calls.{entry, Tags, look, holder}
+use Rattle.model.specs.Runs.{reply, played}
 use Rattle.text.specs.Machines.{token_text}
 use Rattle.digits.specs.Digits.{hex_text, refused_text}
 use Rattle.text.specs.Texts.{sent_text}
 use Rattle.commands.specs.declared.machine.EngineCommand.{EngineCommand}
-use Rattle.commands.specs.declared.machine.EngineCommand.TheVariants.{Move as OneMove, Moves, Hold, GiveBack, Read, Take, Clear, Record, Tags as TagsOf, Core, Token}
+use Rattle.commands.specs.declared.machine.EngineCommand.TheVariants.{Call, Moves, Record, Tags as TagsOf, Core, Token}
 use Rattle.render.specs.Told.{moved_told, look_told, spaced_text}
-use Rattle.answering.specs.Repeated.{moved, repeated, repeated_told}
+use Rattle.answering.specs.Repeated.{repeated, repeated_told}
 
 -- a call that answers nothing but that it was done, by the number of its refusal and the word for done
 abbrev pub done_told : {R : Type 0} → (R → ℕ) → List ℕ → Result (Unit {0}) R → List ℕ
@@ -52,6 +55,15 @@ abbrev pub turn_told : Result Turn RecordRefusal → List ℕ
 turn_told (Ok t) = turn_text t
 turn_told (Err r) = refused_text (record_number r)
 
+-- what a call answered
+abbrev pub reply_told : Reply → List ℕ
+reply_told (Stepped r) = moved_told r
+reply_told (Cleared r) = done_told clear_number (codes "cleared") r
+reply_told (Held r) = done_told hold_number (codes "held") r
+reply_told (Word r) = word_told r
+reply_told (GivenBack r) = done_told give_back_number (codes "given back") r
+reply_told (Taken r) = taken_told r
+
 -- the tags in the first places of a list
 abbrev pub tags_text : Result ℕ TagsRefusal → List ℕ → List ℕ
 tags_text (Ok n) list = decimal n ++ (codes ":" ++ spaced_text (take n list))
@@ -66,13 +78,8 @@ pub record TagsTold (e : Engine) (core places : ℕ) (text : List ℕ) : Type 0 
 
 -- the text of a command's answer
 abbrev pub Told : Engine → EngineCommand → List ℕ → Type 0
-Told e (OneMove m) text = text ≡ moved_told (moved e m).answer
+Told e (Call c) text = text ≡ reply_told (reply e c)
 Told e (Moves m times) text = text ≡ repeated_told (repeated e m times).answer
-Told e Hold text = text ≡ done_told hold_number (codes "held") (hold e).answer
-Told e GiveBack text = text ≡ done_told give_back_number (codes "given back") (give_back e).answer
-Told e (Read a) text = text ≡ word_told (read e a)
-Told e Take text = text ≡ taken_told (take_oldest e).answer
-Told e Clear text = text ≡ done_told clear_number (codes "cleared") (clear e).answer
 Told e (Record place) text = text ≡ turn_told (entry e place)
 Told e (TagsOf core places) text = TagsTold e core places text
 Told e (Core core) text = text ≡ look_told (look e core)
@@ -80,13 +87,8 @@ Told e Token text = text ≡ token_text (holder e)
 
 -- the engine after a command
 abbrev pub engine_after : Engine → EngineCommand → Engine
-engine_after e (OneMove m) = (moved e m).engine
+engine_after e (Call c) = played e c
 engine_after e (Moves m times) = (repeated e m times).engine
-engine_after e Hold = (hold e).engine
-engine_after e GiveBack = (give_back e).engine
-engine_after e (Read a) = e
-engine_after e Take = (take_oldest e).engine
-engine_after e Clear = (clear e).engine
 engine_after e (Record place) = e
 engine_after e (TagsOf core places) = e
 engine_after e (Core core) = e

@@ -1,14 +1,15 @@
 // What an engine answers to the console's commands, over any memory and any outlet.
 ghost use Rattle.std.specs.Prelude.{◌≡◌, Some, Ok, IfOk, string_bytes};
 ghost use Rattle.bank.specs.Logs.{as_turn};
-ghost use Rattle.answering.specs.Answered.{done_told, word_told, taken_told, turn_told, TagsTold, Told, engine_after};
+ghost use Rattle.answering.specs.Answered.{done_told, word_told, taken_told, turn_told, reply_told, TagsTold, Told, engine_after};
 
-use crate::moves::{advance, repeat, tell_repeated};
+use crate::moves::{repeat, tell_repeated};
 use answers::refusal::{NothingWaits, Refusal};
 use commands::machine::EngineCommand;
 use desk::desk::Desk;
 use formats::entry::{RecordEntry, SentEntry};
 use memory::shared::Memory;
+use model::call::Reply;
 use model::refusal::{ReadRefusal, RecordRefusal};
 use outlet::waiting::Outlet;
 use render::packed_form::Packed;
@@ -18,7 +19,7 @@ use std::fmt;
 use text::show::Shown;
 
 // A word that was read, as it is told.
-#[derive(Clone, Copy)]
+#[derive(Clone, Copy, PartialEq, Eq, Debug)]
 struct Word(u32);
 
 impl fmt::Display for Word {
@@ -52,6 +53,20 @@ fn tell_taken(heap: Global, answer: Result<SentEntry, NothingWaits>) -> Result<S
     ensures { IfOk result (λ s. string_bytes s ≡ taken_told answer) }
 {
     tell(heap, answer.map(Shown))
+}
+
+// What is told of what a call answered.
+fn tell_reply(heap: Global, reply: Reply) -> Result<String, AllocError>
+    ensures { IfOk result (λ s. string_bytes s ≡ reply_told reply) }
+{
+    match reply {
+        Reply::Stepped(answer) => tell_moved(heap, answer),
+        Reply::Cleared(answer) => tell_done(heap, answer, "cleared"),
+        Reply::Held(answer) => tell_done(heap, answer, "held"),
+        Reply::Word(answer) => tell_word(heap, answer),
+        Reply::GivenBack(answer) => tell_done(heap, answer, "given back"),
+        Reply::Taken(answer) => tell_taken(heap, answer),
+    }
 }
 
 // What is told of an entry of the record.
@@ -94,13 +109,8 @@ pub fn tell_answer<M: Memory, O: Outlet>(
     ensures told { IfOk result (λ s. Told desk.old command (string_bytes s)) }
 {
     match command {
-        EngineCommand::Move(which) => tell_moved(heap, advance(desk, which)),
+        EngineCommand::Call(call) => tell_reply(heap, desk.perform(call)),
         EngineCommand::Moves(which, times) => tell_repeated(heap, repeat(desk, which, times)),
-        EngineCommand::Hold => tell_done(heap, desk.hold(), "held"),
-        EngineCommand::GiveBack => tell_done(heap, desk.give_back(), "given back"),
-        EngineCommand::Read(address) => tell_word(heap, desk.read(address)),
-        EngineCommand::Take => tell_taken(heap, desk.take()),
-        EngineCommand::Clear => tell_done(heap, desk.clear(), "cleared"),
         EngineCommand::Record(place) => tell_recorded(heap, desk.record(place)),
         EngineCommand::Tags(core, places) => tell_tags(heap, desk, core, places),
         EngineCommand::Core(core) => tell_look(heap, desk.look(core)),

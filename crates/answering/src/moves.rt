@@ -26,7 +26,7 @@ pub(crate) fn advance<M: Memory, O: Outlet>(
 }
 
 // The last answer of some moves, and how many were called.
-#[derive(Clone, Copy)]
+#[derive(Clone, Copy, PartialEq, Eq, Debug)]
 pub(crate) struct Moved {
     last: Option<Result<Answer, StepRefusal>>,
     count: usize,

@@ -5,7 +5,7 @@ use Rattle.std.specs.Result.{result_map_both}
 use Rattle.tokens.specs.Numbers.{read_number}
 use Rattle.commands.specs.declared.reason.Reason.{Reason}
 use Rattle.commands.specs.Reasons.{number_reason}
-use Rattle.commands.specs.Words.{first, others, then, as_number, numbers_of}
+use Rattle.commands.specs.Words.{first, others, and_then, as_number, numbers_of}
 
 -- the words are the one that was taken and those that are left
 pub taken : (ws rest : List (List ℕ)) (word : List ℕ) → Some word ≡ first ws → rest ≡ others ws → ws ≡ word ∷ rest
@@ -15,23 +15,23 @@ taken [] rest word e r =
 taken (w ∷ ws) rest word e r = cc
 
 -- a word that is no number
-pub faulty : (ws rest : List (List ℕ)) (word : List ℕ) (reason : Reason) (next : List ℕ → Result (List ℕ) Reason) → ws ≡ word ∷ rest → Err reason ≡ as_number word → Err reason ≡ then (numbers_of ws) next
+pub faulty : (ws rest : List (List ℕ)) (word : List ℕ) (reason : Reason) (next : List ℕ → Result (List ℕ) Reason) → ws ≡ word ∷ rest → Err reason ≡ as_number word → Err reason ≡ and_then (numbers_of ws) next
 unfolding numbers_of
 faulty ws rest word reason next e f =
-    ap (λ r. then (then r (λ n. then (numbers_of rest) (λ ns. Ok (n ∷ ns)))) next) f ∙ ap (λ v. then (numbers_of v) next) (sym e)
+    ap (λ r. and_then (and_then r (λ n. and_then (numbers_of rest) (λ ns. Ok (n ∷ ns)))) next) f ∙ ap (λ v. and_then (numbers_of v) next) (sym e)
 
-regroup : (n : ℕ) (xs : List ℕ) (r : Result (List ℕ) Reason) → then (then r (λ ns. Ok (n ∷ ns))) (λ ns. Ok (xs ++ ns)) ≡ then r (λ ns. Ok ((xs ++ n ∷ []) ++ ns))
+regroup : (n : ℕ) (xs : List ℕ) (r : Result (List ℕ) Reason) → and_then (and_then r (λ ns. Ok (n ∷ ns))) (λ ns. Ok (xs ++ ns)) ≡ and_then r (λ ns. Ok ((xs ++ n ∷ []) ++ ns))
 regroup n xs (Ok ns) = ap Ok (sym (append_assoc xs (n ∷ []) ns))
 regroup n xs (Err reason) = refl
 
 -- a word that is a number
-pub counted : (ws rest : List (List ℕ)) (word : List ℕ) (n : ℕ) (xs : List ℕ) → ws ≡ word ∷ rest → Ok n ≡ read_number word → then (numbers_of ws) (λ ns. Ok (xs ++ ns)) ≡ then (numbers_of rest) (λ ns. Ok ((xs ++ n ∷ []) ++ ns))
+pub counted : (ws rest : List (List ℕ)) (word : List ℕ) (n : ℕ) (xs : List ℕ) → ws ≡ word ∷ rest → Ok n ≡ read_number word → and_then (numbers_of ws) (λ ns. Ok (xs ++ ns)) ≡ and_then (numbers_of rest) (λ ns. Ok ((xs ++ n ∷ []) ++ ns))
 unfolding numbers_of
 counted ws rest word n xs e f =
-    ap (λ v. then (numbers_of v) (λ ns. Ok (xs ++ ns))) e ∙ ap (λ r. then (then (result_map_both (λ m. m) number_reason r) (λ m. then (numbers_of rest) (λ ns. Ok (m ∷ ns)))) (λ ns. Ok (xs ++ ns))) (sym f) ∙ regroup n xs (numbers_of rest)
+    ap (λ v. and_then (numbers_of v) (λ ns. Ok (xs ++ ns))) e ∙ ap (λ r. and_then (and_then (result_map_both (λ m. m) number_reason r) (λ m. and_then (numbers_of rest) (λ ns. Ok (m ∷ ns)))) (λ ns. Ok (xs ++ ns))) (sym f) ∙ regroup n xs (numbers_of rest)
 
 -- no word, no number
-pub none_counted : (ws : List (List ℕ)) (xs : List ℕ) → None ≡ first ws → Ok xs ≡ then (numbers_of ws) (λ ns. Ok (xs ++ ns))
+pub none_counted : (ws : List (List ℕ)) (xs : List ℕ) → None ≡ first ws → Ok xs ≡ and_then (numbers_of ws) (λ ns. Ok (xs ++ ns))
 unfolding numbers_of
 none_counted [] xs e = ap Ok (sym (append-nil xs))
 none_counted (w ∷ ws) xs e =

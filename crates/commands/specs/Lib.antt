@@ -1,4 +1,3 @@
-pub mod Names
 pub mod Parsing
 pub mod Reasons
 pub mod Said

@@ -1,24 +1,20 @@
 -- What a line says, from its first word to its last.
 -- Assumes nothing.
-use Rattle.std.specs.Prelude.{ℕ, cond, List, [], ◌∷◌, ◌++◌, length, replicate, Some, None, Ok, Err, codes, Option, Result, ◌==◌}
+use Rattle.std.specs.Prelude.{ℕ, cond, List, [], ◌∷◌, ◌++◌, length, replicate, Some, None, Ok, Err, codes, Option, Result, ◌==◌, Bool, false, if◌then◌else◌}
 use Rattle.std.specs.Option.{ok_or}
 use Rattle.std.specs.Str.{bytes_eq}
 use Rattle.memory.specs.Bytes.{bytes_of as four_bytes}
 use Rattle.commands.specs.declared.kind.Kind.{Kind}
 use Rattle.commands.specs.declared.kind.Kind.TheVariants.{Instruction, Entry, Sent}
 use Rattle.commands.specs.declared.machine.EngineCommand.{EngineCommand}
-use Rattle.commands.specs.declared.machine.EngineCommand.TheVariants.{Move, Moves, Hold, GiveBack, Read, Take, Clear, Record, Tags, Core, Token}
-use Rattle.commands.specs.declared.machine.EngineName.{EngineName}
-use Rattle.commands.specs.declared.machine.EngineName.TheVariants.{Step as StepName, Turn as TurnName, Steps as StepsName, Turns as TurnsName, Hold as HoldName, Give as GiveName, Read as ReadName, Take as TakeName, Clear as ClearName, Record as RecordName, Tags as TagsName, Core as CoreName, Token as TokenName}
-use Rattle.commands.specs.declared.machine.Move.TheVariants.{Step, Turn}
-use Rattle.commands.specs.declared.packed_command.PackedName.{PackedName}
-use Rattle.commands.specs.declared.packed_command.PackedName.TheVariants.{Program, ProgramBytes, List as Listing, One, Image}
+use Rattle.commands.specs.declared.machine.EngineCommand.TheVariants.{Call as One, Moves, Record, Tags, Core, Token}
+use Rattle.commands.specs.declared.machine.Move.TheVariants.{Step as Steps, Turn as Turns}
 use Rattle.commands.specs.declared.reason.Reason.{Reason}
 use Rattle.commands.specs.declared.reason.Reason.TheVariants.{UnknownCommand, NotFiveBytes, UnknownKind}
+use Rattle.model.specs.declared.call.Call.TheVariants.{Step, Turn, Clear, Hold, Read, GiveBack, Take}
 use Rattle.buffers.specs.Buffers.{MemorySaid, words, bytes, OutletSaid, store, over}
-use Rattle.commands.specs.Names.{kind_of, packed_name_of, engine_name_of}
 use Rattle.commands.specs.Said.{PackedSaid, program, listing, one, image, SettingsSaid, Said, packed, memory, outlet, make, engine}
-use Rattle.commands.specs.Words.{words_of, others, then, word_of, number_of, bytes_of, numbers_of, ended, last_number_of, last_times_of}
+use Rattle.commands.specs.Words.{words_of, others, and_then, word_of, number_of, times_of, bytes_of, numbers_of, ended}
 
 -- numbers as bytes, four each, most significant first
 abbrev pub spread : List ℕ → List ℕ
@@ -29,88 +25,106 @@ spread (n ∷ ns) = four_bytes n ++ spread ns
 abbrev pub five : List ℕ → Result (List ℕ) Reason
 five bs = cond (length bs == 5) (Ok bs) (Err NotFiveBytes)
 
+-- the kind that a word names
+abbrev pub kind_of : List ℕ → Option Kind
+kind_of word =
+    if bytes_eq word (codes "instruction") then Some Instruction
+    else if bytes_eq word (codes "entry") then Some Entry
+    else if bytes_eq word (codes "sent") then Some Sent
+    else None
+
 -- a packed entry of a kind: a word, or five bytes for what was sent
 abbrev pub entry_of : Kind → List (List ℕ) → Result (List ℕ) Reason
-entry_of Instruction ws = then (number_of ws) (λ n. Ok (four_bytes n))
-entry_of Entry ws = then (number_of ws) (λ n. Ok (four_bytes n))
-entry_of Sent ws = then (bytes_of ws) five
+entry_of Instruction ws = and_then (number_of ws) (λ n. Ok (four_bytes n))
+entry_of Entry ws = and_then (number_of ws) (λ n. Ok (four_bytes n))
+entry_of Sent ws = and_then (bytes_of ws) five
 
 -- the program of some words
 abbrev pub program_of : List (List ℕ) → Result PackedSaid Reason
-program_of ws = then (numbers_of ws) (λ ns. Ok (program (spread ns)))
+program_of ws = and_then (numbers_of ws) (λ ns. Ok (program (spread ns)))
+
+-- the program of some bytes, and nothing after them
+abbrev pub program_bytes_of : List (List ℕ) → Result PackedSaid Reason
+program_bytes_of ws = and_then (bytes_of ws) (λ bs. ended (others ws) (program bs))
+
+-- one entry of a kind, and nothing after it
+abbrev pub one_of : Kind → List (List ℕ) → Result PackedSaid Reason
+one_of kind ws = and_then (entry_of kind ws) (λ bs. ended (others ws) (one kind bs))
 
 -- a kind and some bytes, and nothing after them
 abbrev pub image_of : List (List ℕ) → Result PackedSaid Reason
 image_of ws =
-    then (word_of ws) (λ word. then (ok_or (kind_of word) UnknownKind) (λ kind. then (bytes_of (others ws)) (λ bs. ended (others (others ws)) (image kind bs))))
+    and_then (word_of ws) (λ word. and_then (ok_or (kind_of word) UnknownKind) (λ kind. and_then (bytes_of (others ws)) (λ bs. ended (others (others ws)) (image kind bs))))
 
--- a command on programs and packed words, by its name and the words after it
-abbrev pub packed_of : PackedName → List (List ℕ) → Result PackedSaid Reason
-packed_of Program ws = program_of ws
-packed_of ProgramBytes ws = then (bytes_of ws) (λ bs. ended (others ws) (program bs))
-packed_of Listing ws = ended ws listing
-packed_of (One kind) ws = then (entry_of kind ws) (λ bs. ended (others ws) (one kind bs))
-packed_of Image ws = image_of ws
+-- whether the first word, if there is one, is a name
+abbrev pub begins : List (List ℕ) → List ℕ → Bool
+begins [] name = false
+begins (word ∷ ws) name = bytes_eq word name
 
--- a command to an engine, by its name and the words after it
-abbrev pub engine_of : EngineName → List (List ℕ) → Result EngineCommand Reason
-engine_of StepName ws = then (last_number_of ws) (λ core. Ok (Move (Step core)))
-engine_of TurnName ws = ended ws (Move Turn)
-engine_of StepsName ws =
-    then (number_of ws) (λ core. then (last_times_of (others ws)) (λ n. Ok (Moves (Step core) n)))
-engine_of TurnsName ws = then (last_times_of ws) (λ n. Ok (Moves Turn n))
-engine_of HoldName ws = ended ws Hold
-engine_of GiveName [] = Err UnknownCommand
-engine_of GiveName (word ∷ ws) = cond (bytes_eq word (codes "back")) (ended ws GiveBack) (Err UnknownCommand)
-engine_of ReadName ws = then (last_number_of ws) (λ address. Ok (Read address))
-engine_of TakeName ws = ended ws Take
-engine_of ClearName ws = ended ws Clear
-engine_of RecordName ws = then (last_number_of ws) (λ place. Ok (Record place))
-engine_of TagsName ws =
-    then (number_of ws) (λ core. then (last_times_of (others ws)) (λ n. Ok (Tags core n)))
-engine_of CoreName ws = then (last_number_of ws) (λ core. Ok (Core core))
-engine_of TokenName ws = ended ws Token
+-- the command of the words after `give`
+abbrev pub give_of : List (List ℕ) → Result EngineCommand Reason
+give_of ws = if begins ws (codes "back") then ended (others ws) (One GiveBack) else Err UnknownCommand
+
+-- a command to an engine, by its first word and those after it
+abbrev pub engine_of : List ℕ → List (List ℕ) → Result EngineCommand Reason
+engine_of word ws =
+    if bytes_eq word (codes "step") then and_then (number_of ws) (λ core. ended (others ws) (One (Step core)))
+    else if bytes_eq word (codes "turn") then ended ws (One Turn)
+    else if bytes_eq word (codes "steps") then and_then (number_of ws) (λ core. and_then (times_of (others ws)) (λ n. ended (others (others ws)) (Moves (Steps core) n)))
+    else if bytes_eq word (codes "turns") then and_then (times_of ws) (λ n. ended (others ws) (Moves Turns n))
+    else if bytes_eq word (codes "hold") then ended ws (One Hold)
+    else if bytes_eq word (codes "give") then give_of ws
+    else if bytes_eq word (codes "read") then and_then (number_of ws) (λ address. ended (others ws) (One (Read address)))
+    else if bytes_eq word (codes "take") then ended ws (One Take)
+    else if bytes_eq word (codes "clear") then ended ws (One Clear)
+    else if bytes_eq word (codes "record") then and_then (number_of ws) (λ place. ended (others ws) (Record place))
+    else if bytes_eq word (codes "tags") then and_then (number_of ws) (λ core. and_then (times_of (others ws)) (λ n. ended (others (others ws)) (Tags core n)))
+    else if bytes_eq word (codes "core") then and_then (number_of ws) (λ core. ended (others ws) (Core core))
+    else if bytes_eq word (codes "token") then ended ws Token
+    else Err UnknownCommand
 
 -- a buffer for a memory, by the words after `memory`
 abbrev pub memory_of : List (List ℕ) → Result MemorySaid Reason
-memory_of [] = Err UnknownCommand
-memory_of (word ∷ ws) =
-    cond (bytes_eq word (codes "words")) (then (numbers_of ws) (λ ns. Ok (words ns))) (cond (bytes_eq word (codes "bytes")) (then (bytes_of ws) (λ bs. ended (others ws) (bytes bs))) (Err UnknownCommand))
+memory_of ws =
+    if begins ws (codes "words") then and_then (numbers_of (others ws)) (λ ns. Ok (words ns))
+    else if begins ws (codes "bytes") then and_then (bytes_of (others ws)) (λ bs. ended (others (others ws)) (bytes bs))
+    else Err UnknownCommand
 
 -- so many zero bytes as the only word says
 abbrev pub zeros_of : List (List ℕ) → Result OutletSaid Reason
-zeros_of ws = then (last_times_of ws) (λ n. Ok (over (replicate n 0)))
+zeros_of ws = and_then (times_of ws) (λ n. ended (others ws) (over (replicate n 0)))
 
 -- a buffer for an outlet, by the words after `outlet`
 abbrev pub outlet_of : List (List ℕ) → Result OutletSaid Reason
-outlet_of [] = Err UnknownCommand
-outlet_of (word ∷ ws) =
-    cond (bytes_eq word (codes "store")) (ended ws store) (cond (bytes_eq word (codes "bytes")) (zeros_of ws) (Err UnknownCommand))
+outlet_of ws =
+    if begins ws (codes "store") then ended (others ws) store
+    else if begins ws (codes "bytes") then zeros_of (others ws)
+    else Err UnknownCommand
 
 -- the settings of an engine, by the words after `make`
 abbrev pub settings_of : List (List ℕ) → Result SettingsSaid Reason
 settings_of ws =
-    then (number_of ws) (λ n. then (numbers_of (others ws)) (λ ns. Ok (record { lines = n; places = ns })))
-
--- a command to an engine, if it is one
-abbrev pub engine_if : Option EngineName → List (List ℕ) → Result Said Reason
-engine_if None ws = Err UnknownCommand
-engine_if (Some name) ws = then (engine_of name ws) (λ c. Ok (engine c))
-
--- a command on programs and packed words, if it is one, else one to an engine
-abbrev pub packed_if : Option PackedName → List ℕ → List (List ℕ) → Result Said Reason
-packed_if None word ws = engine_if (engine_name_of word) ws
-packed_if (Some name) word ws = then (packed_of name ws) (λ c. Ok (packed c))
+    and_then (number_of ws) (λ n. and_then (numbers_of (others ws)) (λ ns. Ok (record { lines = n; places = ns })))
 
 -- a command, by its first word and those after it
 abbrev pub named_of : List ℕ → List (List ℕ) → Result Said Reason
 named_of word ws =
-    cond (bytes_eq word (codes "memory")) (then (memory_of ws) (λ b. Ok (memory b))) (cond (bytes_eq word (codes "outlet")) (then (outlet_of ws) (λ b. Ok (outlet b))) (cond (bytes_eq word (codes "make")) (then (settings_of ws) (λ s. Ok (make s))) (packed_if (packed_name_of word) word ws)))
+    if bytes_eq word (codes "memory") then and_then (memory_of ws) (λ b. Ok (memory b))
+    else if bytes_eq word (codes "outlet") then and_then (outlet_of ws) (λ b. Ok (outlet b))
+    else if bytes_eq word (codes "make") then and_then (settings_of ws) (λ s. Ok (make s))
+    else if bytes_eq word (codes "program") then and_then (program_of ws) (λ c. Ok (packed c))
+    else if bytes_eq word (codes "program-bytes") then and_then (program_bytes_of ws) (λ c. Ok (packed c))
+    else if bytes_eq word (codes "list") then ended ws (packed listing)
+    else if bytes_eq word (codes "image") then and_then (image_of ws) (λ c. Ok (packed c))
+    else if bytes_eq word (codes "instruction") then and_then (one_of Instruction ws) (λ c. Ok (packed c))
+    else if bytes_eq word (codes "entry") then and_then (one_of Entry ws) (λ c. Ok (packed c))
+    else if bytes_eq word (codes "sent") then and_then (one_of Sent ws) (λ c. Ok (packed c))
+    else and_then (engine_of word ws) (λ c. Ok (engine c))
 
 -- the command of some words, if there are any
 abbrev pub line_of : List (List ℕ) → Result (Option Said) Reason
 line_of [] = Ok None
-line_of (word ∷ ws) = then (named_of word ws) (λ c. Ok (Some c))
+line_of (word ∷ ws) = and_then (named_of word ws) (λ c. Ok (Some c))
 
 -- the command that a text says, and none where it is blank
 abbrev pub command_of : List ℕ → Result (Option Said) Reason

@@ -7,23 +7,7 @@ use Rattle.tokens.specs.Lines.{next_token}
 use Rattle.tokens.specs.Numbers.{read_number, read_bytes}
 use Rattle.commands.specs.declared.reason.Reason.{Reason}
 use Rattle.commands.specs.declared.reason.Reason.TheVariants.{MissingWord, NumberTooLarge, NoBytes, ExtraWord}
-use Rattle.commands.specs.declared.words.Words.{Words}
 use Rattle.commands.specs.Reasons.{number_reason}
-
--- the word itself, of a word and the text after it
-abbrev pub first_of : Option (List ℕ × List ℕ) → Option (List ℕ)
-first_of None = None
-first_of (Some p) = Some p.0
-
--- the text after it; where there is no word, the text as it was
-abbrev pub rest_of : List ℕ → Option (List ℕ × List ℕ) → List ℕ
-rest_of text None = text
-rest_of text (Some p) = p.1
-
--- a word more than wanted
-abbrev pub end_of : Option (List ℕ × List ℕ) → Result (Unit {0}) Reason
-end_of None = Ok tt
-end_of (Some p) = Err ExtraWord
 
 -- a token, and the words of the text after it
 abbrev pub listed : (List ℕ → List (List ℕ)) → Option (List ℕ × List ℕ) → List (List ℕ)
@@ -39,10 +23,6 @@ words_up_to (suc n) text = listed (words_up_to n) (next_token text)
 unfoldable pub words_of : List ℕ → List (List ℕ)
 words_of text = words_up_to (length text) text
 
--- the words that are left
-abbrev pub left : Words → List (List ℕ)
-left words = words_of words.rest.now
-
 -- the next word, if there is one
 abbrev pub first : List (List ℕ) → Option (List ℕ)
 first [] = None
@@ -54,9 +34,9 @@ others [] = []
 others (word ∷ words) = words
 
 -- one question after another: the first refusal stays
-abbrev pub then : {A B : Type 0} → Result A Reason → (A → Result B Reason) → Result B Reason
-then (Ok a) next = next a
-then (Err reason) next = Err reason
+abbrev pub and_then : {A B : Type 0} → Result A Reason → (A → Result B Reason) → Result B Reason
+and_then (Ok a) next = next a
+and_then (Err reason) next = Err reason
 
 -- the next word, which has to be there
 abbrev pub word_of : List (List ℕ) → Result (List ℕ) Reason
@@ -68,7 +48,7 @@ as_number word = result_map_both (λ n. n) number_reason (read_number word)
 
 -- the next word as a number
 unfoldable pub number_of : List (List ℕ) → Result ℕ Reason
-number_of words = then (word_of words) as_number
+number_of words = and_then (word_of words) as_number
 
 -- 65,536 at most
 abbrev pub few : ℕ → Result ℕ Reason
@@ -76,26 +56,18 @@ few n = cond (nat_lt 65536 n) (Err NumberTooLarge) (Ok n)
 
 -- the next word as a number of steps, turns, bytes or places
 unfoldable pub times_of : List (List ℕ) → Result ℕ Reason
-times_of words = then (number_of words) few
+times_of words = and_then (number_of words) few
 
 -- the next word as bytes
 unfoldable pub bytes_of : List (List ℕ) → Result (List ℕ) Reason
-bytes_of words = then (word_of words) (λ word. ok_or (read_bytes word) NoBytes)
+bytes_of words = and_then (word_of words) (λ word. ok_or (read_bytes word) NoBytes)
 
 -- all words as numbers: the first that is none decides
 unfoldable pub numbers_of : List (List ℕ) → Result (List ℕ) Reason
 numbers_of [] = Ok []
-numbers_of (word ∷ words) = then (as_number word) (λ n. then (numbers_of words) (λ ns. Ok (n ∷ ns)))
+numbers_of (word ∷ words) = and_then (as_number word) (λ n. and_then (numbers_of words) (λ ns. Ok (n ∷ ns)))
 
 -- a value, where no word is left
 abbrev pub ended : {A : Type 0} → List (List ℕ) → A → Result A Reason
 ended [] value = Ok value
 ended (word ∷ words) value = Err ExtraWord
-
--- the next word as a number, and nothing after it
-unfoldable pub last_number_of : List (List ℕ) → Result ℕ Reason
-last_number_of words = then (number_of words) (λ n. ended (others words) n)
-
--- the next word as a number of steps, turns, bytes or places, and nothing after it
-unfoldable pub last_times_of : List (List ℕ) → Result ℕ Reason
-last_times_of words = then (times_of words) (λ n. ended (others words) n)

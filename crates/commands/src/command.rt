@@ -1,14 +1,13 @@
 // A line as a command.
 ghost use Rattle.std.specs.Prelude.{◌≡◌, IfOk};
 ghost use Rattle.std.specs.Option.{option_map};
-ghost use Rattle.commands.specs.Names.{packed_name_of};
-ghost use Rattle.commands.specs.Parsing.{settings_of, packed_if, named_of, command_of};
+ghost use Rattle.commands.specs.Parsing.{settings_of, named_of, command_of};
 ghost use Rattle.commands.specs.Reasons.{Reads};
 ghost use Rattle.commands.specs.Said.{settings_said, said};
-ghost use Rattle.commands.specs.Words.{left};
 
-use crate::machine::{EngineCommand, EngineName};
-use crate::packed_command::{PackedCommand, PackedName};
+use crate::kind::Kind;
+use crate::machine::EngineCommand;
+use crate::packed_command::PackedCommand;
 use crate::reason::{ParseError, Reason};
 use crate::setting::{memory_buffer, outlet_buffer};
 use crate::words::{Words, as_name};
@@ -44,7 +43,7 @@ fn widened(heap: Global, numbers: &[u32]) -> Result<Vec<usize>, AllocError>
 impl Settings {
     // The settings that the words after `make` say.
     fn parse(heap: Global, mut words: Words) -> Result<Settings, ParseError>
-        ensures { Reads settings_said result (settings_of (left words.entry)) }
+        ensures { Reads settings_said result (settings_of words.entry) }
     {
         let lines = words.place()?;
         let numbers = words.numbers(heap)?;
@@ -54,28 +53,26 @@ impl Settings {
 }
 
 impl Command {
-    // The command of its first word and those after it.
-    fn named(heap: Global, word: &[u8], words: Words) -> Result<Command, ParseError>
-        ensures { Reads said result (named_of word.now (left words.entry)) }
+    // The command of a name and the words after it.
+    fn named(heap: Global, name: &str, words: Words) -> Result<Command, ParseError>
+        ensures { Reads said result (named_of name.now words.entry) }
     {
-        match as_name(word) {
+        match name {
             "memory" => Ok(Command::Memory(memory_buffer(heap, words)?)),
             "outlet" => Ok(Command::Outlet(outlet_buffer(heap, words)?)),
             "make" => Ok(Command::Make(Settings::parse(heap, words)?)),
-            _ => Command::packed_or_engine(heap, word, words),
-        }
-    }
-
-    // The same for a command on programs and packed words, else one to an engine.
-    fn packed_or_engine(heap: Global, word: &[u8], words: Words) -> Result<Command, ParseError>
-        ensures { Reads said result (packed_if (packed_name_of word.now) word.now (left words.entry)) }
-    {
-        if let Some(name) = PackedName::named(word) {
-            Ok(Command::Packed(PackedCommand::parse(heap, name, words)?))
-        } else if let Some(name) = EngineName::named(word) {
-            Ok(Command::Engine(EngineCommand::parse(name, words)?))
-        } else {
-            Err(ParseError::NotUnderstood(Reason::UnknownCommand))
+            "program" => Ok(Command::Packed(PackedCommand::program(heap, words)?)),
+            "program-bytes" => Ok(Command::Packed(PackedCommand::program_bytes(heap, words)?)),
+            "list" => Ok(Command::Packed(words.end(PackedCommand::List)?)),
+            "image" => Ok(Command::Packed(PackedCommand::image(heap, words)?)),
+            "instruction" => Ok(Command::Packed(PackedCommand::one(
+                heap,
+                Kind::Instruction,
+                words,
+            )?)),
+            "entry" => Ok(Command::Packed(PackedCommand::one(heap, Kind::Entry, words)?)),
+            "sent" => Ok(Command::Packed(PackedCommand::one(heap, Kind::Sent, words)?)),
+            _ => Ok(Command::Engine(EngineCommand::parse(name, words)?)),
         }
     }
 
@@ -87,6 +84,7 @@ impl Command {
         let Some(word) = words.next() else {
             return Ok(None);
         };
-        Ok(Some(Command::named(heap, word, words)?))
+        let name = as_name(word).ok_or(Reason::UnknownCommand)?;
+        Ok(Some(Command::named(heap, name, words)?))
     }
 }

@@ -1,10 +1,10 @@
 // The kinds of packed entries.
 ghost use Rattle.std.specs.Prelude.{◌≡◌};
-ghost use Rattle.commands.specs.Names.{kind_of};
+ghost use Rattle.commands.specs.Parsing.{kind_of};
 
 use crate::words::as_name;
 
-#[derive(Clone, Copy)]
+#[derive(Clone, Copy, PartialEq, Eq, Debug)]
 pub enum Kind {
     Instruction,
     Entry,
@@ -17,9 +17,9 @@ impl Kind {
         ensures { result ≡ kind_of word.now }
     {
         match as_name(word) {
-            "instruction" => Some(Kind::Instruction),
-            "entry" => Some(Kind::Entry),
-            "sent" => Some(Kind::Sent),
+            Some("instruction") => Some(Kind::Instruction),
+            Some("entry") => Some(Kind::Entry),
+            Some("sent") => Some(Kind::Sent),
             _ => None,
         }
     }

@@ -1,31 +1,24 @@
 // The commands to an engine.
 ghost use Rattle.std.specs.Prelude.{◌≡◌};
-ghost use Rattle.commands.specs.Names.{engine_name_of};
-ghost use Rattle.commands.specs.Parsing.{engine_of};
-ghost use Rattle.commands.specs.Words.{left};
+ghost use Rattle.commands.specs.Parsing.{give_of, engine_of};
 
 use crate::reason::Reason;
-use crate::words::{Words, as_name};
+use crate::words::Words;
+use model::call::Call;
 
 // Which core is moved.
-#[derive(Clone, Copy)]
+#[derive(Clone, Copy, PartialEq, Eq, Debug)]
 pub enum Move {
     Step(usize),
     Turn,
 }
 
-#[derive(Clone, Copy)]
+#[derive(Clone, Copy, PartialEq, Eq, Debug)]
 pub enum EngineCommand {
-    // one move
-    Move(Move),
+    // one call
+    Call(Call),
     // up to so many moves
     Moves(Move, usize),
-    Hold,
-    GiveBack,
-    // shows the word at an address
-    Read(usize),
-    Take,
-    Clear,
     // shows the entry at a place
     Record(usize),
     // copies a core's tags to a list of so many places
@@ -35,77 +28,59 @@ pub enum EngineCommand {
     Token,
 }
 
-// The first word of a command to an engine.
-#[derive(Clone, Copy)]
-pub(crate) enum EngineName {
-    Step,
-    Turn,
-    Steps,
-    Turns,
-    Hold,
-    Give,
-    Read,
-    Take,
-    Clear,
-    Record,
-    Tags,
-    Core,
-    Token,
-}
-
-impl EngineName {
-    // The name that a word is.
-    pub(crate) fn named(word: &[u8]) -> Option<EngineName>
-        ensures { result ≡ engine_name_of word.now }
+impl EngineCommand {
+    // The command of a name and the words after it.
+    pub(crate) fn parse(name: &str, mut words: Words) -> Result<EngineCommand, Reason>
+        ensures { result ≡ engine_of name.now words.entry }
     {
-        match as_name(word) {
-            "step" => Some(EngineName::Step),
-            "turn" => Some(EngineName::Turn),
-            "steps" => Some(EngineName::Steps),
-            "turns" => Some(EngineName::Turns),
-            "hold" => Some(EngineName::Hold),
-            "give" => Some(EngineName::Give),
-            "read" => Some(EngineName::Read),
-            "take" => Some(EngineName::Take),
-            "clear" => Some(EngineName::Clear),
-            "record" => Some(EngineName::Record),
-            "tags" => Some(EngineName::Tags),
-            "core" => Some(EngineName::Core),
-            "token" => Some(EngineName::Token),
-            _ => None,
+        match name {
+            "step" => {
+                let core = words.place()?;
+                words.end(EngineCommand::Call(Call::Step(core)))
+            }
+            "turn" => words.end(EngineCommand::Call(Call::Turn)),
+            "steps" => {
+                let core = words.place()?;
+                let times = words.times()?;
+                words.end(EngineCommand::Moves(Move::Step(core), times))
+            }
+            "turns" => {
+                let times = words.times()?;
+                words.end(EngineCommand::Moves(Move::Turn, times))
+            }
+            "hold" => words.end(EngineCommand::Call(Call::Hold)),
+            "give" => give(words),
+            "read" => {
+                let address = words.place()?;
+                words.end(EngineCommand::Call(Call::Read(address)))
+            }
+            "take" => words.end(EngineCommand::Call(Call::Take)),
+            "clear" => words.end(EngineCommand::Call(Call::Clear)),
+            "record" => {
+                let place = words.place()?;
+                words.end(EngineCommand::Record(place))
+            }
+            "tags" => {
+                let core = words.place()?;
+                let places = words.times()?;
+                words.end(EngineCommand::Tags(core, places))
+            }
+            "core" => {
+                let core = words.place()?;
+                words.end(EngineCommand::Core(core))
+            }
+            "token" => words.end(EngineCommand::Token),
+            _ => Err(Reason::UnknownCommand),
         }
     }
 }
 
-impl EngineCommand {
-    // The command of a name and the words after it.
-    pub(crate) fn parse(name: EngineName, mut words: Words) -> Result<EngineCommand, Reason>
-        ensures { result ≡ engine_of name (left words.entry) }
-    {
-        match name {
-            EngineName::Step => Ok(EngineCommand::Move(Move::Step(words.last_place()?))),
-            EngineName::Turn => words.end(EngineCommand::Move(Move::Turn)),
-            EngineName::Steps => {
-                let core = words.place()?;
-                Ok(EngineCommand::Moves(Move::Step(core), words.last_times()?))
-            }
-            EngineName::Turns => Ok(EngineCommand::Moves(Move::Turn, words.last_times()?)),
-            EngineName::Hold => words.end(EngineCommand::Hold),
-            EngineName::Give => match words.name() {
-                "back" => words.end(EngineCommand::GiveBack),
-                _ => Err(Reason::UnknownCommand),
-            },
-            EngineName::Read => Ok(EngineCommand::Read(words.last_place()?)),
-            EngineName::Take => words.end(EngineCommand::Take),
-            EngineName::Clear => words.end(EngineCommand::Clear),
-            EngineName::Record => Ok(EngineCommand::Record(words.last_place()?)),
-            EngineName::Tags => {
-                let core = words.place()?;
-                let places = words.last_times()?;
-                Ok(EngineCommand::Tags(core, places))
-            }
-            EngineName::Core => Ok(EngineCommand::Core(words.last_place()?)),
-            EngineName::Token => words.end(EngineCommand::Token),
-        }
+// The command of the words after `give`.
+fn give(mut words: Words) -> Result<EngineCommand, Reason>
+    ensures { result ≡ give_of words.entry }
+{
+    match words.name() {
+        Some("back") => words.end(EngineCommand::Call(Call::GiveBack)),
+        _ => Err(Reason::UnknownCommand),
     }
 }

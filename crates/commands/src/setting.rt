@@ -2,7 +2,6 @@
 ghost use Rattle.buffers.specs.Buffers.{memory_said, outlet_said};
 ghost use Rattle.commands.specs.Parsing.{memory_of, zeros_of, outlet_of};
 ghost use Rattle.commands.specs.Reasons.{Reads};
-ghost use Rattle.commands.specs.Words.{left};
 
 use crate::reason::{ParseError, Reason};
 use crate::words::Words;
@@ -11,11 +10,11 @@ use std::alloc::Global;
 
 // The buffer that the words after `memory` say.
 pub(crate) fn memory_buffer(heap: Global, mut words: Words) -> Result<MemoryBuffer, ParseError>
-    ensures { Reads memory_said result (memory_of (left words.entry)) }
+    ensures { Reads memory_said result (memory_of words.entry) }
 {
     match words.name() {
-        "words" => Ok(MemoryBuffer::Words(words.numbers(heap)?)),
-        "bytes" => {
+        Some("words") => Ok(MemoryBuffer::Words(words.numbers(heap)?)),
+        Some("bytes") => {
             let bytes = words.bytes(heap)?;
             Ok(words.end(MemoryBuffer::Bytes(bytes))?)
         }
@@ -24,20 +23,21 @@ pub(crate) fn memory_buffer(heap: Global, mut words: Words) -> Result<MemoryBuff
 }
 
 // So many zero bytes as the only word says.
-fn zeros(heap: Global, words: Words) -> Result<OutletBuffer, ParseError>
-    ensures { Reads outlet_said result (zeros_of (left words.entry)) }
+fn zeros(heap: Global, mut words: Words) -> Result<OutletBuffer, ParseError>
+    ensures { Reads outlet_said result (zeros_of words.entry) }
 {
-    let size = words.last_times()?;
+    let size = words.times()?;
+    words.end(())?;
     Ok(OutletBuffer::Bytes(vec![in heap; 0; size]?))
 }
 
 // The buffer that the words after `outlet` say.
 pub(crate) fn outlet_buffer(heap: Global, mut words: Words) -> Result<OutletBuffer, ParseError>
-    ensures { Reads outlet_said result (outlet_of (left words.entry)) }
+    ensures { Reads outlet_said result (outlet_of words.entry) }
 {
     match words.name() {
-        "store" => Ok(words.end(OutletBuffer::Store)?),
-        "bytes" => zeros(heap, words),
+        Some("store") => Ok(words.end(OutletBuffer::Store)?),
+        Some("bytes") => zeros(heap, words),
         _ => Err(ParseError::NotUnderstood(Reason::UnknownCommand)),
     }
 }

@@ -6,7 +6,7 @@ ghost use Rattle.digits.specs.Digits.{hex_text};
 use std::fmt;
 
 // The lowest bytes of a number, at most its eight, as two digits each.
-#[derive(Clone, Copy)]
+#[derive(Clone, Copy, PartialEq, Eq, Debug)]
 pub struct Hex<const BYTES: usize>(pub u64);
 
 impl<const BYTES: usize> fmt::Display for Hex<BYTES> {

@@ -10,47 +10,54 @@ use formats::instruction::Instruction;
 use packed::list;
 use std::alloc::{AllocError, Global};
 
-// How many bytes an entry has.
-fn size(kind: Kind) -> usize
-    ensures { result ≡ kind_bytes kind }
-{
-    match kind {
-        Kind::Instruction => <Instruction as PackedEntry>::size(),
-        Kind::Entry => <RecordEntry as PackedEntry>::size(),
-        Kind::Sent => <SentEntry as PackedEntry>::size(),
-    }
-}
-
-// How many whole entries the bytes hold.
-pub(crate) fn count(kind: Kind, bytes: &[u8]) -> usize
-    ensures { result ≡ length bytes.now / kind_bytes kind }
-{
-    match kind {
-        Kind::Instruction => list::count::<Instruction>(bytes),
-        Kind::Entry => list::count::<RecordEntry>(bytes),
-        Kind::Sent => list::count::<SentEntry>(bytes),
-    }
-}
-
-// How many bytes are left after the whole entries.
-pub(crate) fn spare(kind: Kind, bytes: &[u8]) -> usize
-    ensures { result ≡ length bytes.now % kind_bytes kind }
-{
-    bytes.len() % size(kind)
-}
-
-// What is told of the entry at a place.
-pub(crate) fn tell_at(
+// Bytes as a packed list of entries of a kind.
+#[derive(Clone, Copy)]
+pub(crate) struct Image<'a> {
     kind: Kind,
-    heap: Global,
-    bytes: &[u8],
-    place: usize,
-) -> Result<String, AllocError>
-    ensures { IfOk result (λ s. string_bytes s ≡ told kind bytes.now place) }
-{
-    match kind {
-        Kind::Instruction => tell_instruction(heap, list::get(bytes, place)),
-        Kind::Entry => tell_record(heap, list::get(bytes, place)),
-        Kind::Sent => tell_sent(heap, list::get(bytes, place)),
+    bytes: &'a [u8],
+}
+
+impl<'a> Image<'a> {
+    pub(crate) fn new(kind: Kind, bytes: &'a [u8]) -> Image<'a>
+        ensures kind { result.kind ≡ kind }
+        ensures bytes { result.bytes.now ≡ bytes.now }
+    {
+        Image { kind, bytes }
+    }
+
+    // How many bytes an entry has.
+    fn size(self) -> usize
+        ensures { result ≡ kind_bytes self.entry.kind }
+    {
+        match self.kind {
+            Kind::Instruction => <Instruction as PackedEntry>::size(),
+            Kind::Entry => <RecordEntry as PackedEntry>::size(),
+            Kind::Sent => <SentEntry as PackedEntry>::size(),
+        }
+    }
+
+    // How many whole entries there are.
+    pub(crate) fn count(self) -> usize
+        ensures { result ≡ length self.entry.bytes.now / kind_bytes self.entry.kind }
+    {
+        self.bytes.len() / self.size()
+    }
+
+    // How many bytes are left after the whole entries.
+    pub(crate) fn spare(self) -> usize
+        ensures { result ≡ length self.entry.bytes.now % kind_bytes self.entry.kind }
+    {
+        self.bytes.len() % self.size()
+    }
+
+    // What is told of the entry at a place.
+    pub(crate) fn tell_at(self, heap: Global, place: usize) -> Result<String, AllocError>
+        ensures { IfOk result (λ s. string_bytes s ≡ told self.entry.kind self.entry.bytes.now place) }
+    {
+        match self.kind {
+            Kind::Instruction => tell_instruction(heap, list::get(self.bytes, place)),
+            Kind::Entry => tell_record(heap, list::get(self.bytes, place)),
+            Kind::Sent => tell_sent(heap, list::get(self.bytes, place)),
+        }
     }
 }

@@ -4,10 +4,9 @@ ghost use Rattle.program.specs.Reading.{read_program};
 ghost use Rattle.render.specs.Lines.{instruction_line, listed, entry_line, image_lines, packed_lines, program_after};
 ghost use Rattle.render.specs.Told.{count_read, after_reading, program_told};
 
-use crate::entries::{count, spare, tell_at};
+use crate::entries::Image;
 use crate::line::write_line;
 use answers::refusal::ProgramRefusal;
-use commands::kind::Kind;
 use commands::packed_command::PackedCommand;
 use digits::refused::RefusedAt;
 use formats::instruction::Instruction;
@@ -32,10 +31,12 @@ pub fn answer(
         }
         PackedCommand::List => list(heap, program, out),
         PackedCommand::One(kind, bytes) => {
-            let told = tell_at(kind, heap, bytes.as_slice(), 0)?;
+            let told = Image::new(kind, bytes.as_slice()).tell_at(heap, 0)?;
             write_line(out, told.as_str())
         }
-        PackedCommand::Image(kind, bytes) => show_image(heap, kind, bytes.as_slice(), out),
+        PackedCommand::Image(kind, bytes) => {
+            show_image(heap, Image::new(kind, bytes.as_slice()), out)
+        }
     }
 }
 
@@ -56,13 +57,7 @@ fn tell_program(heap: Global, read: Result<usize, ProgramRefusal>) -> Result<Str
 {
     match read {
         Ok(count) => format!(in heap; "accepted {count}"),
-        Err(refusal) => format!(in heap;
-            "{}",
-            RefusedAt {
-                refusal,
-                place: refusal.place
-            }
-        ),
+        Err(refusal) => format!(in heap; "{}", RefusedAt(refusal)),
     }
 }
 
@@ -95,31 +90,25 @@ fn list_one(
     write_line(out, line.as_str())
 }
 
-// The bytes as a packed list: how many entries and spare bytes it has, and a line for each entry.
-fn show_image(heap: Global, kind: Kind, bytes: &[u8], out: &mut Vec<u8>) -> Result<(), AllocError>
-    ensures { OnOk result (out.new.items ≡ out.old.items ++ image_lines kind bytes.now) }
+// How many entries and spare bytes an image has, and a line for each entry.
+fn show_image(heap: Global, image: Image, out: &mut Vec<u8>) -> Result<(), AllocError>
+    ensures { OnOk result (out.new.items ≡ out.old.items ++ image_lines image.entry.kind image.entry.bytes.now) }
 {
-    let entries = count(kind, bytes);
-    let head = format!(in heap; "entries {entries} spare {}", spare(kind, bytes))?;
+    let entries = image.count();
+    let head = format!(in heap; "entries {entries} spare {}", image.spare())?;
     write_line(out, head.as_str())?;
     // By place, which is what the packed list is asked for.
     for place in 0..entries {
-        show_one(heap, kind, bytes, place, out)?;
+        show_one(heap, image, place, out)?;
     }
     Ok(())
 }
 
 // The line of one entry.
-fn show_one(
-    heap: Global,
-    kind: Kind,
-    bytes: &[u8],
-    place: usize,
-    out: &mut Vec<u8>,
-) -> Result<(), AllocError>
-    ensures { OnOk result (out.new.items ≡ out.old.items ++ entry_line kind bytes.now place) }
+fn show_one(heap: Global, image: Image, place: usize, out: &mut Vec<u8>) -> Result<(), AllocError>
+    ensures { OnOk result (out.new.items ≡ out.old.items ++ entry_line image.entry.kind image.entry.bytes.now place) }
 {
-    let told = tell_at(kind, heap, bytes, place)?;
+    let told = image.tell_at(heap, place)?;
     let line = format!(in heap; "  {place}: {told}")?;
     write_line(out, line.as_str())
 }

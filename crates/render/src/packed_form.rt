@@ -10,7 +10,7 @@ use std::fmt;
 use text::show::Shown;
 
 // An entry's text and its packed form.
-#[derive(Clone, Copy)]
+#[derive(Clone, Copy, PartialEq, Eq, Debug)]
 pub struct Packed<E>(pub E);
 
 impl fmt::Display for Packed<Instruction> {

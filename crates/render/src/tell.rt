@@ -45,13 +45,7 @@ fn tell_refused_instruction(
 {
     match refusal {
         ListRefusal::Outside => tell_refused(heap, refusal),
-        ListRefusal::Entry(placed) => format!(in heap;
-            "{}",
-            RefusedAt {
-                refusal: placed.fault,
-                place: placed.place
-            }
-        ),
+        ListRefusal::Entry(placed) => format!(in heap; "{}", RefusedAt(placed)),
     }
 }
 

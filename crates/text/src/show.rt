@@ -8,7 +8,7 @@ use formats::register::Register;
 use std::fmt;
 
 // What the console writes for a value.
-#[derive(Clone, Copy)]
+#[derive(Clone, Copy, PartialEq, Eq, Debug)]
 pub struct Shown<T>(pub T);
 
 // A register: `R0` to `R7`.

@@ -4,6 +4,7 @@ use commands::kind::Kind;
 use commands::machine::{EngineCommand, Move};
 use commands::packed_command::PackedCommand;
 use commands::reason::{ParseError, Reason};
+use model::call::Call;
 use std::alloc::Global;
 use std::test::Fail;
 
@@ -75,7 +76,7 @@ fn a_sent_entry_has_five_bytes(rt: HostRuntime) -> Result<(), Fail> {
 #[test]
 fn give_wants_back(rt: HostRuntime) -> Result<(), Fail> {
     let heap = rt.alloc();
-    let Some(EngineCommand::GiveBack) = engine(heap, b"give back") else {
+    let Some(EngineCommand::Call(Call::GiveBack)) = engine(heap, b"give back") else {
         assert!(rt; false);
         return Ok(());
     };

@@ -1,5 +1,5 @@
 // Tests at the edges.
-use answers::refusal::InstructionFault;
+use answers::refusal::{InstructionFault, Placed};
 use digits::hex::Hex;
 use digits::refused::RefusedAt;
 use formats::below::Immediate;
@@ -74,10 +74,10 @@ fn texts_are_the_documented_ones(rt: HostRuntime) -> Result<(), Fail> {
         format!(in heap; "{}", Hex::<5>(0xC8FFFFFFFF))?.as_str(),
         "C8FFFFFFFF"
     );
-    let refused = RefusedAt {
-        refusal: InstructionFault::BadField,
+    let refused = RefusedAt(Placed {
+        fault: InstructionFault::BadField,
         place: 511,
-    };
+    });
     assert_eq!(rt; format!(in heap; "{refused}")?.as_str(), "refused 3 at 511");
     Ok(())
 }

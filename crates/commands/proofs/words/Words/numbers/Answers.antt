@@ -1,7 +1,7 @@
 use Rattle.std.proofs.Common.{◌≡◌, ◌++◌, Ok, Err, vec_items, sym, ap, ◌∙◌, rules}
 use Rattle.tokens.specs.Numbers.{read_number}
 use Rattle.commands.specs.declared.reason.ParseError.TheVariants.{NotUnderstood}
-use Rattle.commands.specs.Words.{left, then, as_number, numbers_of}
+use Rattle.commands.specs.Words.{and_then, as_number, numbers_of}
 use Rattle.commands.proofs.Counted.{taken, faulty, counted, none_counted}
 use Rattle.commands.proofs.words.Words.numbers.Goals as goal
 
@@ -10,7 +10,7 @@ returns-in_err-map_err c =
     let reason = c.in_err-map_err.field-0.0 in
     let is : Err reason ≡ as_number c.in-Some.word.now = search rules in
     let e = taken _ _ _ c.in-Some.ensures.value c.in-Some.ensures.after in
-    let wanted : Err reason ≡ numbers_of (left c.args.self) = faulty _ _ _ _ _ e is ∙ sym c.loop-word.invariant in
+    let wanted : Err reason ≡ numbers_of c.args.self = faulty _ _ _ _ _ e is ∙ sym c.loop-word.invariant in
     let given : c.from_residual.result ≡ Err (NotUnderstood reason) = search rules in
     rw given wanted
 
@@ -18,7 +18,7 @@ pub loop-word-preserved : goal.loop-word-preserved
 loop-word-preserved c =
     let is : Ok c.in_ok-map_err.field-0 ≡ read_number c.in-Some.word.now = search rules in
     let e = taken _ _ _ c.in-Some.ensures.value c.in-Some.ensures.after in
-    c.loop-word.invariant ∙ counted _ _ _ _ (vec_items c.loop-word.numbers) e is ∙ ap (λ xs. then (numbers_of (left c.next.new.self)) (λ ns. Ok (xs ++ ns))) (sym c.in_ok-push.ensures.items)
+    c.loop-word.invariant ∙ counted _ _ _ _ (vec_items c.loop-word.numbers) e is ∙ ap (λ xs. and_then (numbers_of c.next.new.self) (λ ns. Ok (xs ++ ns))) (sym c.in_ok-push.ensures.items)
 
 pub returns : goal.returns
 returns c =
