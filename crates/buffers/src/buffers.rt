@@ -8,14 +8,14 @@ use outlet::waiting::Outlet;
 use std::alloc::{AllocError, Global};
 
 // A buffer for a shared memory.
-#[derive(Drop)]
+#[derive(Drop, PartialEq, Eq, Debug)]
 pub enum MemoryBuffer {
     Words(Vec<u32>),
     Bytes(Vec<u8>),
 }
 
 // A buffer for an outlet, which the store does not need. No Option: both forms have their name.
-#[derive(Drop)]
+#[derive(Drop, PartialEq, Eq, Debug)]
 pub enum OutletBuffer {
     Store,
     Bytes(Vec<u8>),

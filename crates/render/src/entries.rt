@@ -11,7 +11,7 @@ use packed::list;
 use std::alloc::{AllocError, Global};
 
 // Bytes as a packed list of entries of a kind.
-#[derive(Clone, Copy)]
+#[derive(Clone, Copy, PartialEq, Eq, Debug)]
 pub(crate) struct Image<'a> {
     kind: Kind,
     bytes: &'a [u8],
