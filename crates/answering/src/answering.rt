@@ -41,20 +41,6 @@ fn tell_done<R: Refusal + Drop>(
     tell(heap, answer.map(|()| done))
 }
 
-// What is told of a word that was read.
-fn tell_word(heap: Global, answer: Result<u32, ReadRefusal>) -> Result<String, AllocError>
-    ensures { IfOk result (λ s. string_bytes s ≡ word_told answer) }
-{
-    tell(heap, answer.map(Word))
-}
-
-// What is told of an entry that was taken.
-fn tell_taken(heap: Global, answer: Result<SentEntry, NothingWaits>) -> Result<String, AllocError>
-    ensures { IfOk result (λ s. string_bytes s ≡ taken_told answer) }
-{
-    tell(heap, answer.map(Shown))
-}
-
 // What is told of what a call answered.
 fn tell_reply(heap: Global, reply: Reply) -> Result<String, AllocError>
     ensures { IfOk result (λ s. string_bytes s ≡ reply_told reply) }
@@ -63,9 +49,9 @@ fn tell_reply(heap: Global, reply: Reply) -> Result<String, AllocError>
         Reply::Stepped(answer) => tell_moved(heap, answer),
         Reply::Cleared(answer) => tell_done(heap, answer, "cleared"),
         Reply::Held(answer) => tell_done(heap, answer, "held"),
-        Reply::Word(answer) => tell_word(heap, answer),
+        Reply::Word(answer) => tell(heap, answer.map(Word)),
         Reply::GivenBack(answer) => tell_done(heap, answer, "given back"),
-        Reply::Taken(answer) => tell_taken(heap, answer),
+        Reply::Taken(answer) => tell(heap, answer.map(Shown)),
     }
 }
 
