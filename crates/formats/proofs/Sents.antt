@@ -1,6 +1,6 @@
 -- Outlet entries as numbers of 40 bits, each way.
 -- Assumes nothing.
-use Rattle.std.proofs.Common.{◌≡◌, ℕ, ◌/◌, ◌%◌, ◌^◌, ◌<◌, [], ◌∷◌, Ok, ap, ◌∙◌, sym, arith}
+use Rattle.std.proofs.Common.{◌≡◌, ℕ, ◌/◌, ◌%◌, ◌^◌, ◌<◌, [], ◌∷◌, Ok, ap, arith}
 use mathlib.Core.HLevel.{is_prop→PathP}
 use native.Mathlib.Bridge.{le_prop}
 use Rattle.formats.specs.declared.entry.SentEntry.{SentEntry}
@@ -24,15 +24,14 @@ code_fits e = omega (arith, e.fits, e.channel.fits)
 -- unpacking an entry's number gives the entry
 pub code_again : (e : SentEntry) → code_sent (sent_code e) ≡ Ok e
 code_again e =
-    ap Ok (same_sent (sent_of (sent_code e)) e
-    (same_value 256 (channel_of (sent_code e / 4294967296)) e.channel (omega (arith, e.fits, e.channel.fits)))
-    (omega (arith, e.fits, e.channel.fits)))
+    let channel : channel_of (sent_code e / 4294967296) ≡ e.channel = same_value _ _ _ (omega (arith, e.fits, e.channel.fits)) in
+    ap Ok (same_sent _ _ channel (omega (arith, e.fits, e.channel.fits)))
 
 -- packing what a number unpacks to gives the number
 pub code_back : (n : ℕ) (e : SentEntry) → n < 256 ^ 5 → code_sent n ≡ Ok e → sent_code e ≡ n
 code_back n e h is =
     let it : sent_of n ≡ e = cc in
-    ap sent_code (sym it) ∙ omega arith
+    rw (← it) (omega arith)
 
 -- the channel and the bytes of the word are the entry's bytes
 pub bytes_written : (e : SentEntry) (channel : ℕ) → channel ≡ e.channel.value → channel ∷ (e.word / 16777216 % 256) ∷ (e.word / 65536 % 256) ∷ (e.word / 256 % 256) ∷ (e.word % 256) ∷ [] ≡ sent_bytes e
