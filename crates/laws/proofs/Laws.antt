@@ -10,7 +10,7 @@ use Rattle.laws.proofs.Calls.{always}
 use Rattle.laws.proofs.Serial.{serial_at}
 use Rattle.laws.proofs.RollBack.{roll_back_at}
 use Rattle.laws.proofs.HeldRead.{held_read_at}
-use Rattle.laws.proofs.Observed.{told_by}
+use Rattle.laws.proofs.Observed.{told}
 
 pub serial : Serial
 serial s m o cs = serial_at (history s m o cs) (always s m o cs)
@@ -22,7 +22,7 @@ pub held_read_lem : HeldRead
 held_read_lem s m o cs = held_read_at (history s m o cs) (always s m o cs)
 
 pub observed : Observed
-observed s m o cs c = record { memory = (told_by (history s m o cs).engine c).0; outlet = (told_by (history s m o cs).engine c).1 }
+observed s m o cs = told (history s m o cs)
 
 mores_plays : (cs : List Call) (r : Run) → (mores r cs).engine ≡ plays r.engine cs
 mores_plays [] r = refl

@@ -1,7 +1,6 @@
 -- The machine takes one more turn: what the record's next entry comes to.
 -- Assumes nothing.
-use Rattle.std.proofs.Common.{◌≡◌, ℕ, false, List, [], ◌∷◌, ◌++◌, get_or, refl}
-use mathlib.Core.Option.{Option, none, some}
+use Rattle.std.proofs.Common.{◌≡◌, ℕ, false, List, [], ◌∷◌, ◌++◌, get_or, refl, arith}
 use lib.ListN.{get_or-map}
 use Rattle.formats.specs.declared.entry.Mark.{Mark}
 use Rattle.formats.specs.declared.instruction.Instruction.{Instruction}
@@ -12,18 +11,8 @@ use Rattle.model.specs.Journal.{Journal}
 use Rattle.laws.proofs.Invariant.{scene, Inv}
 
 runs_append : (program : List Instruction) (ts : List Turn) (t : Turn) (m : Machine) → runs program (ts ++ t ∷ []) m ≡ and_then (runs program ts m) (turn program t)
-runs_append program [] t m = go (turn program t m)
-  where
-    go : (o : Option Machine) → and_then o (runs program []) ≡ o
-    go none = refl
-    go (some x) = refl
-runs_append program (s ∷ ts) t m = go (λ x. runs_append program ts t x) (turn program s m)
-  where
-    go :
-        ((x : Machine) → runs program (ts ++ t ∷ []) x ≡ and_then (runs program ts x) (turn program t)) →
-        (o : Option Machine) → and_then o (runs program (ts ++ t ∷ [])) ≡ and_then (and_then o (runs program ts)) (turn program t)
-    go ih none = refl
-    go ih (some x) = ih x
+runs_append program [] t m = grind arith
+runs_append program (s ∷ ts) t m = grind (arith, runs_append program ts t)
 
 -- a core of the machine is the engine's core as settled
 pub core_settled : (e : Engine) (j : Journal) (h : Inv e j) (i : ℕ) → get_or h.now.cores i no_core ≡ settle (core_at e i)
