@@ -1,29 +1,28 @@
 -- Every call keeps the invariant, and so does every list of calls, from making on.
 -- Assumes nothing.
-use Rattle.std.proofs.Common.{◌≡◌, ℕ, zero, suc, ◌+◌, ◌<◌, cond, ltb, leb, List, [], ◌∷◌, ◌++◌, length, get_or, Ok, Err, Result, sym, refl, ap, ◌∙◌, subst, arith}
+use Rattle.std.proofs.Common.{◌≡◌, ℕ, zero, suc, ◌<◌, List, [], ◌∷◌, length, get_or, Ok, Err, Result, sym, refl, subst, arith}
 use Rattle.std.proofs.lemmas.List.{append_assoc, append-nil}
-use Rattle.std.proofs.lemmas.Bool.{cond_both, ltb-true}
+use Rattle.std.proofs.lemmas.Bool.Decides.{nat_tests}
 use Rattle.answers.specs.declared.answer.Answer.{Answer}
 use Rattle.formats.specs.declared.entry.SentEntry.{SentEntry}
 use Rattle.formats.specs.declared.instruction.Instruction.{Instruction}
 use Rattle.model.specs.declared.state.State.{State}
 use Rattle.model.specs.declared.state.State.TheVariants.{Bypass, Transaction, Commit, Abort, EarlyFlush, EarlyCommit, Stopped}
 use Rattle.model.specs.declared.state.Token.{Token}
-use Rattle.model.specs.declared.state.Token.TheVariants.{Free, Core as CoreHas, Host}
+use Rattle.model.specs.declared.state.Token.TheVariants.{Free}
 use Rattle.model.specs.declared.refusal.CheckRefusal.{CheckRefusal}
 use Rattle.model.specs.declared.refusal.StepRefusal.{StepRefusal}
-use Rattle.model.specs.declared.refusal.StepRefusal.TheVariants.{NoSuchCore, RecordFull}
 use Rattle.model.specs.declared.call.Call.{Call}
 use Rattle.model.specs.declared.call.Call.TheVariants.{Step, Turn, Clear, Hold, Read, GiveBack, Take}
 use Rattle.model.specs.Instructions.{asks, outer_at, inner_at}
 use Rattle.model.specs.Cores.{step_by_state}
 use Rattle.model.specs.Engine.{Engine, Outlet, Settings, make, new_cores, check, blank, core_at, view_of}
-use Rattle.model.specs.Calls.{outcome_of, After, stays, stepped, step, wanted, advanced, clear_if, emptied, hold_if, give_back_if, take_from}
+use Rattle.model.specs.Calls.{outcome_of, step, advanced, clear_if, emptied, hold, give_back, take_oldest}
 use Rattle.model.specs.Runs.{event, moved_event, clear_event, hold_event, take_event, played}
 use Rattle.model.specs.Journal.{Journal, Run, new_journal, start_of, note, more, mores, fresh, history}
 use Rattle.laws.proofs.Books.{closed}
-use Rattle.laws.proofs.Invariant.{Good, Booked, Shared, SentIs, HeldIs, Inv}
-use Rattle.laws.proofs.Keeps.{InvAfter, other_still, free_core}
+use Rattle.laws.proofs.Invariant.{Good, Booked, Shared, HeldIs, Inv}
+use Rattle.laws.proofs.Keeps.{InvAfter}
 use Rattle.laws.proofs.Plain.{stopped, aborted, bypass}
 use Rattle.laws.proofs.Transaction.{transaction}
 use Rattle.laws.proofs.Holder.{commit, early_flush, early_commit}
@@ -47,37 +46,11 @@ stepped_kept e j h i b = state_kept (core_at e i).state e j h i b refl
 
 -- step
 step_kept : (e : Engine) (j : Journal) (h : Inv e j) (i : ℕ) → Inv (step e i).engine (note e (moved_event e i (step e i).answer) j)
-step_kept e j h i =
-    let P : After (Result Answer StepRefusal) → Type 0 = λ a. Inv a.engine (note e (moved_event e i a.answer) j) in
-    cond_both (ltb i (length e.cores)) (cond (leb (length e.entries + wanted e.token i) 1024) (stepped e i) (stays e (Err RecordFull))) (stays e (Err NoSuchCore)) P
-    (λ b. cond_both (leb (length e.entries + wanted e.token i) 1024) (stepped e i) (stays e (Err RecordFull)) P
-    (λ _. stepped_kept e j h i (ltb-true i (length e.cores) b))
-    (λ _. h))
-    (λ _. h)
+step_kept e j h i = grind (arith, nat_tests, stepped_kept e j h i)
 
 -- the core that is next is no matter
 advanced_kept : (r : Result Answer StepRefusal) (e : Engine) (j : Journal) → Inv e j → Inv (advanced r e) j
-advanced_kept (Ok a) e j h = record {
-  now = h.now;
-  ran = h.ran;
-  settled = h.settled;
-  size = h.size;
-  good = h.good;
-  booked = h.booked;
-  shared = next_shared e.token h.shared;
-  held = next_held e.token h.held;
-}
-  where
-    next_shared : (t : Token) → Shared t e j h.now → Shared t (advanced (Ok a) e) j h.now
-    next_shared Free w = w
-    next_shared (CoreHas k) w = w
-    next_shared Host w = w
-
-    next_held : (t : Token) → HeldIs t e j → HeldIs t (advanced (Ok a) e) j
-    next_held Free w = w
-    next_held (CoreHas k) w = w
-    next_held Host w = w
-advanced_kept (Err r) e j h = h
+advanced_kept r e j h = grind arith
 
 -- turn
 turn_kept : (e : Engine) (j : Journal) (h : Inv e j) → Inv (advanced (step e e.next).answer (step e e.next).engine) (note e (moved_event e e.next (step e e.next).answer) j)
@@ -95,84 +68,29 @@ clear_kept Free e j f h = record {
   shared = subst (λ t. Shared t (emptied e) (note e (clear_event (Ok tt)) j) (start_of e)) (sym f) (refl, sym (append-nil e.outlet.waiting));
   held = subst (λ t. HeldIs t (emptied e) (note e (clear_event (Ok tt)) j)) (sym f) tt;
 }
-clear_kept (CoreHas k) e j f h = h
-clear_kept Host e j f h = h
-
--- the token goes from free to the host, or back
-token_good : (e : Engine) (j : Journal) (h : Inv e j) (t : Token) → ((k : ℕ) → e.token ≡ CoreHas k → ⊥) → (k : ℕ) → Good (core_at e k).state e.program e.memory t k (core_at e k)
-token_good e j h t apart k = other_still (core_at e k).state e.program e.memory e.token t k (core_at e k) (λ q. absurd (apart k q)) (h.good k)
-
-host_core : (k : ℕ) → Host ≡ CoreHas k → ⊥
-host_core k h = let z : ◌≡◌ {A = ℕ} 0 1 = cc in omega arith
+clear_kept _ e j f h = h
 
 -- hold
-hold_kept : (t : Token) (e : Engine) (j : Journal) → e.token ≡ t → Inv e j → Inv (hold_if t e).engine (note e (hold_event (hold_if t e).answer) j)
-hold_kept Free e j f h =
-    let w = subst (λ t. Shared t e j h.now) f h.shared in
-    record {
-      now = h.now;
-      ran = h.ran;
-      settled = h.settled;
-      size = h.size;
-      good = token_good e j h Host (λ k q. free_core k (sym f ∙ q));
-      booked = h.booked;
-      shared = w;
-      held = (h.now, h.ran, w.0);
-    }
-hold_kept (CoreHas k) e j f h = h
-hold_kept Host e j f h = h
+hold_kept : (e : Engine) (j : Journal) → Inv e j → Inv (hold e).engine (note e (hold_event (hold e).answer) j)
+hold_kept e j h = grind arith
 
 -- give back
-give_back_kept : (t : Token) (e : Engine) (j : Journal) → e.token ≡ t → Inv e j → Inv (give_back_if t e).engine j
-give_back_kept Free e j f h = h
-give_back_kept (CoreHas k) e j f h = h
-give_back_kept Host e j f h = record {
-  now = h.now;
-  ran = h.ran;
-  settled = h.settled;
-  size = h.size;
-  good = token_good e j h Free (λ k q. host_core k (sym f ∙ q));
-  booked = h.booked;
-  shared = subst (λ t. Shared t e j h.now) f h.shared;
-  held = tt;
-}
+give_back_kept : (e : Engine) (j : Journal) → Inv e j → Inv (give_back e).engine j
+give_back_kept e j h = grind arith
 
 -- take
-take_kept : (ws : List SentEntry) (e : Engine) (j : Journal) → e.outlet.waiting ≡ ws → Inv e j → Inv (take_from ws e).engine (note e (take_event (take_from ws e).answer) j)
-take_kept [] e j w h = h
-take_kept (x ∷ xs) e j w h = record {
-  now = h.now;
-  ran = h.ran;
-  settled = h.settled;
-  size = h.size;
-  good = h.good;
-  booked = h.booked;
-  shared = taken_shared e.token h.shared;
-  held = taken_held e.token h.held;
-}
-  where
-    moved : (s : List SentEntry) → SentIs e j s → (j.taken ++ x ∷ []) ++ xs ≡ j.waiting ++ s
-    moved s p = append_assoc j.taken (x ∷ []) xs ∙ ap (λ l. j.taken ++ l) (sym w) ∙ p
-
-    taken_shared : (t : Token) → Shared t e j h.now → Shared t (take_from (x ∷ xs) e).engine (note e (take_event (Ok x)) j) h.now
-    taken_shared Free p = (p.0, moved h.now.sent p.1)
-    taken_shared (CoreHas k) p = (p.0, p.1, moved p.0 p.2)
-    taken_shared Host p = (p.0, moved h.now.sent p.1)
-
-    taken_held : (t : Token) → HeldIs t e j → HeldIs t (take_from (x ∷ xs) e).engine (note e (take_event (Ok x)) j)
-    taken_held Free p = tt
-    taken_held (CoreHas k) p = tt
-    taken_held Host p = p
+take_kept : (e : Engine) (j : Journal) → Inv e j → Inv (take_oldest e).engine (note e (take_event (take_oldest e).answer) j)
+take_kept e j h = grind (arith, append_assoc {A = SentEntry})
 
 -- every call
 call_kept : (e : Engine) (j : Journal) (h : Inv e j) (c : Call) → Inv (played e c) (note e (event e c) j)
 call_kept e j h (Step i) = step_kept e j h i
 call_kept e j h Turn = turn_kept e j h
 call_kept e j h Clear = clear_kept e.token e j refl h
-call_kept e j h Hold = hold_kept e.token e j refl h
+call_kept e j h Hold = hold_kept e j h
 call_kept e j h (Read a) = h
-call_kept e j h GiveBack = give_back_kept e.token e j refl h
-call_kept e j h Take = take_kept e.outlet.waiting e j refl h
+call_kept e j h GiveBack = give_back_kept e j h
+call_kept e j h Take = take_kept e j h
 
 -- every list of calls
 calls_kept : (cs : List Call) (r : Run) → Inv r.engine r.journal → Inv (mores r cs).engine (mores r cs).journal

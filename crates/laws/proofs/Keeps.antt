@@ -1,14 +1,14 @@
 -- One step of a core keeps the invariant of all the others.
 -- Assumes nothing.
-use Rattle.std.proofs.Common.{◌≡◌, ℕ, ◌<◌, true, false, ◌≢◌, List, [], ◌∷◌, ◌++◌, map, length, get_or, set, sym, refl, ap, ◌∙◌, subst, inl, inr, arith}
+use Rattle.std.proofs.Common.{◌≡◌, ℕ, ◌<◌, false, ◌≢◌, List, [], ◌∷◌, ◌++◌, map, length, get_or, set, sym, refl, ap, ◌∙◌, subst, inl, inr, arith}
 use mathlib.Core.Option.{some}
 use lib.ListN.{length-map, get_or-map}
 use Rattle.std.proofs.lemmas.List.{length-set, get_or-set_same, get_or-set_other, map-set}
-use Rattle.std.proofs.lemmas.Bool.{cases_Bool, cases_eq, eq-eqb, ne_eqb, or_from, or_left, or_right, false≢true}
+use Rattle.std.proofs.lemmas.Bool.{cases_Bool, cases_eq, eq-eqb, ne_eqb, or_from, or_right}
 use Rattle.formats.specs.declared.entry.SentEntry.{SentEntry}
 use Rattle.formats.specs.declared.instruction.Instruction.{Instruction}
 use Rattle.model.specs.declared.state.State.{State}
-use Rattle.model.specs.declared.state.State.TheVariants.{Bypass, Transaction, Commit, Abort, EarlyFlush, EarlyCommit, Stopped}
+use Rattle.model.specs.declared.state.State.TheVariants.{Transaction}
 use Rattle.model.specs.declared.state.Token.{Token}
 use Rattle.model.specs.declared.state.Token.TheVariants.{Free, Core as CoreHas, Host}
 use Rattle.model.specs.Instructions.{Ask}
@@ -29,11 +29,8 @@ use Rattle.laws.proofs.Invariant.{Follows, Good, Booked, Holding, Holder, Shared
 follows_write : (program : List Instruction) (m : List ℕ) (c : Core) (a w : ℕ) → Follows program m c → tagged c.lines a ≡ false → Follows program (set m a w) c
 follows_write program m c a w f h = record {
   fit = fit_set c.lines m a w f.fit h;
-  alone = λ m' s n agree. f.alone m' s (n ∙ length-set m a w) (λ b t. agree b t ∙ get_or-set_other m a b w 0 (apart b t));
+  alone = λ m' s n agree. f.alone m' s (n ∙ length-set m a w) (λ b t. grind (arith, agree b, get_or-set_other m a b w 0));
 }
-  where
-    apart : (b : ℕ) → tagged c.lines b ≡ true → b ≢ a
-    apart b t e = false≢true (sym h ∙ rw e at t)
 
 -- a core is in its state
 pub good_in : (s : State) (program : List Instruction) (m : List ℕ) (t : Token) (k : ℕ) (c : Core) → c.state ≡ s → Good s program m t k c → Good c.state program m t k c
@@ -47,7 +44,6 @@ pub other_write :
     (s : State) (program : List Instruction) (m : List ℕ) (t t' : Token) (k : ℕ) (c : Core) (b : Book) (a w : ℕ) →
     c.state ≡ s → (t ≡ CoreHas k → ⊥) → Good s program m t k c → Booked s b c →
     Good (struck_at s a c).state program (set m a w) t' k (struck_at s a c) × Booked (struck_at s a c).state (other_book (Wrote a w) b) (struck_at s a c)
-other_write Bypass program m t t' k c b a w e apart g p = rw e (tt, p)
 other_write Transaction program m t t' k c b a w e apart g p =
     elim (cases_Bool (tagged c.lines a)) [
       | inl q ↦ rw q (tt, (p.is_open, or_right b.hit (has a b.taken) (p.taken a ∙ q)))
@@ -61,23 +57,13 @@ other_write Transaction program m t t' k c b a w e apart g p =
         }),
       )
     ]
-other_write Commit program m t t' k c b a w e apart g p = absurd (apart g)
-other_write Abort program m t t' k c b a w e apart g p = rw e (tt, (p.0, or_left b.hit (has a b.taken) p.1))
-other_write EarlyFlush program m t t' k c b a w e apart g p = absurd (apart g)
-other_write EarlyCommit program m t t' k c b a w e apart g p = absurd (apart g)
-other_write Stopped program m t t' k c b a w e apart g p = rw e (tt, p)
+other_write _ program m t t' k c b a w e apart g p = grind arith
 
 -- another core's step that writes nothing
 pub other_still :
     (s : State) (program : List Instruction) (m : List ℕ) (t t' : Token) (k : ℕ) (c : Core) →
     (t ≡ CoreHas k → t' ≡ CoreHas k) → Good s program m t k c → Good s program m t' k c
-other_still Bypass program m t t' k c same g = tt
-other_still Transaction program m t t' k c same g = g
-other_still Commit program m t t' k c same g = same g
-other_still Abort program m t t' k c same g = tt
-other_still EarlyFlush program m t t' k c same g = same g
-other_still EarlyCommit program m t t' k c same g = same g
-other_still Stopped program m t t' k c same g = tt
+other_still s program m t t' k c same g = grind arith
 
 -- a core disturbs no other that has the token: it writes and sends nothing then, and leaves the token where it is
 abbrev pub Quiet : Effect → Token → Token → ℕ → Type 0
@@ -96,8 +82,7 @@ other (Sent x) program m t t' i k c b ne q g p = (other_still c.state program m 
 
 struck_blank : (x : Effect) → struck x blank ≡ blank
 struck_blank Nothing = refl
-struck_blank (Wrote a w) = refl
-struck_blank (Sent x) = refl
+struck_blank _ = refl
 
 -- the core that made the step
 pub core_own : (e : Engine) (i : ℕ) (o : Outcome) → i < length e.cores → core_at (change e i o) i ≡ o.core
@@ -110,19 +95,8 @@ core_other e i k o ne =
     ∙ ap (get_or (map (struck o.effect) e.cores) k) (sym (struck_blank o.effect))
     ∙ get_or-map (struck o.effect) e.cores k blank
 
-settle_at : (s : State) (a : ℕ) (c : Core) → c.state ≡ s → settle (struck_at s a c) ≡ settle c
-settle_at Bypass a c e = refl
-settle_at Transaction a c e = elim (cases_Bool (tagged c.lines a)) [ inl q ↦ rw (q, e) refl | inr q ↦ rw q refl ]
-settle_at Commit a c e = refl
-settle_at Abort a c e = refl
-settle_at EarlyFlush a c e = refl
-settle_at EarlyCommit a c e = refl
-settle_at Stopped a c e = refl
-
 settle_struck : (x : Effect) (c : Core) → settle (struck x c) ≡ settle c
-settle_struck Nothing c = refl
-settle_struck (Wrote a w) c = settle_at c.state a c refl
-settle_struck (Sent x) c = refl
+settle_struck x c = grind arith
 
 settle_map : (x : Effect) (cs : List Core) → map settle (map (struck x) cs) ≡ map settle cs
 settle_map x [] = refl
@@ -133,9 +107,7 @@ pub settle_change : (e : Engine) (i : ℕ) (o : Outcome) → map settle (change 
 settle_change e i o = map-set settle (map (struck o.effect) e.cores) i o.core ∙ ap (λ l. set l i (settle o.core)) (settle_map o.effect e.cores)
 
 pub length_after : (x : Effect) (m : List ℕ) → length (memory_after x m) ≡ length m
-length_after Nothing m = refl
-length_after (Wrote a w) m = length-set m a w
-length_after (Sent x) m = refl
+length_after x m = grind (arith, length-set {A = ℕ})
 
 -- what a step owes
 pub record Step (e : Engine) (j : Journal) (h : Inv e j) (i : ℕ) (ask : Ask) (o : Outcome) : Type 0 where
@@ -180,25 +152,12 @@ kept e j h i ask o b p shared held = record {
         × Booked (struck o.effect (core_at e k)).state (other_book o.effect (books j.moves k)) (struck o.effect (core_at e k))
     others k q = other o.effect e.program e.memory e.token o.token i k (core_at e k) (books j.moves k) q p.quiet (h.good k) (h.booked k)
 
--- the token is in one place
-
-pub free_core : (k : ℕ) → Free ≡ CoreHas k → ⊥
-free_core k h = let z : ◌≡◌ {A = ℕ} 0 1 = cc in omega arith
-
-core_core : (i k : ℕ) → CoreHas i ≡ CoreHas k → k ≡ i
-core_core i k h = cc
-
 -- with the token free, or its own, a core disturbs nobody
-apart_quiet : (x : Effect) (t t' : Token) (i : ℕ) → ((k : ℕ) → k ≢ i → t ≡ CoreHas k → ⊥) → Quiet x t t' i
-apart_quiet Nothing t t' i h = λ k ne e. absurd (h k ne e)
-apart_quiet (Wrote a w) t t' i h = h
-apart_quiet (Sent x) t t' i h = h
-
 pub free_quiet : (x : Effect) (t t' : Token) (i : ℕ) → t ≡ Free → Quiet x t t' i
-free_quiet x t t' i f = apart_quiet x t t' i (λ k ne e. free_core k (sym f ∙ e))
+free_quiet x t t' i f = grind arith
 
 pub own_quiet : (x : Effect) (t t' : Token) (i : ℕ) → t ≡ CoreHas i → Quiet x t t' i
-own_quiet x t t' i f = apart_quiet x t t' i (λ k ne e. ne (core_core i k (sym f ∙ e)))
+own_quiet x t t' i f = grind arith
 
 -- memory and sent words after a step of a core that had the token, or found it free
 abbrev pub Own : Token → Engine → Journal → ℕ → Outcome → Machine → Type 0
@@ -211,9 +170,7 @@ own_shared :
     (t : Token) (e : Engine) (j : Journal) (i : ℕ) (ask : Ask) (o : Outcome) (now : Machine) → i < length e.cores →
     Own t e j i o now →
     Shared t (change e i o) (note e (Moved i ask o.answer o.effect) j) now × HeldIs t (change e i o) (note e (Moved i ask o.answer o.effect) j)
-own_shared Free e j i ask o now b w = (w, tt)
-own_shared (CoreHas k) e j i ask o now b w = rw (w.0, core_own e i o b) (w.1, tt)
-own_shared Host e j i ask o now b w = absurd w
+own_shared t e j i ask o now b w = grind (arith, core_own e i o b)
 
 -- a step of a core that had the token, or found it free
 pub kept_own :
@@ -223,22 +180,13 @@ kept_own e j h i ask o b p w =
     let q = own_shared o.token e j i ask o p.machine b w in
     kept e j h i ask o b p q.0 q.1
 
-holding_same :
-    (program : List Instruction) (now now' : Machine) (m : List ℕ) (s : List SentEntry) (c : Core) →
-    now'.memory ≡ now.memory → now'.sent ≡ now.sent → Holding program now m s c → Holding program now' m s c
-holding_same program now now' m s c p q h = record { state = h.state; alone = rw (p, q) h.alone }
-
 aside_shared :
     (t : Token) (e : Engine) (j : Journal) (i : ℕ) (ask : Ask) (o : Outcome) (now now' : Machine) →
     o.effect ≡ Nothing → (Holder (core_at e i).state e.program e.memory (core_at e i) → ⊥) →
     now'.memory ≡ now.memory → now'.sent ≡ now.sent →
     Shared t e j now → HeldIs t e j →
     Shared t (change e i o) (note e (Moved i ask o.answer o.effect) j) now' × HeldIs t (change e i o) (note e (Moved i ask o.answer o.effect) j)
-aside_shared Free e j i ask o now now' x not_i p q w v = rw (x, p, q) (w, tt)
-aside_shared (CoreHas k) e j i ask o now now' x not_i p q w v =
-    let ne : k ≢ i = λ same. not_i (rw same at w.1.state) in
-    rw (core_other e i k o ne, x) ((w.0, holding_same e.program now now' e.memory w.0 (core_at e k) p q w.1, w.2), tt)
-aside_shared Host e j i ask o now now' x not_i p q w v = rw (x, p, q) (w, v)
+aside_shared t e j i ask o now now' x not_i p q w v = grind (arith, core_other)
 
 -- a step of a core that has not the token, and writes and sends nothing
 pub kept_aside :

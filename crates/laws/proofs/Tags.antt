@@ -1,8 +1,9 @@
 -- A core's lines are at different addresses, and so its tags can be copied, each once.
 -- Assumes nothing.
-use Rattle.std.proofs.Common.{◌≡◌, ℕ, suc, ◌≤◌, false, cond, ◌||◌, eqb, ltb, leb, List, [], ◌∷◌, ◌++◌, length, drop, Ok, Err, Result, sym, refl, ap, ◌∙◌, inl, inr, arith}
+use Rattle.std.proofs.Common.{◌≡◌, ℕ, ◌≤◌, false, cond, ltb, leb, List, [], ◌∷◌, ◌++◌, length, drop, Ok, Err, Result, refl, ap, ◌∙◌, inl, inr, arith}
 use Rattle.std.proofs.lemmas.List.{length-append, length-drop, take_at, drop_at}
-use Rattle.std.proofs.lemmas.Bool.{cases_Bool, leb-true, eqb-true, eqb-false, ne_eqb, or_parts, or_from}
+use Rattle.std.proofs.lemmas.Bool.Decides.{nat_tests}
+use Rattle.std.proofs.lemmas.Bool.{cases_Bool, leb-true}
 use Rattle.model.specs.declared.refusal.TagsRefusal.{TagsRefusal}
 use Rattle.model.specs.declared.refusal.TagsRefusal.TheVariants.{NoSuchCore, TooShort}
 use Rattle.model.specs.declared.place.Line.{Line}
@@ -16,49 +17,29 @@ use Rattle.laws.proofs.Lines.{holds_append, holds_store_at}
 
 pub distinct_append : (ls : List Line) (l : Line) → Distinct ls → holds ls l.address ≡ false → Distinct (ls ++ l ∷ [])
 distinct_append [] l d h = (refl, tt)
-distinct_append (k ∷ ls) l d h =
-    let p = or_parts (eqb k.address l.address) (holds ls l.address) h in
-    let ne = eqb-false k.address l.address p.0 in (
-      holds_append ls l k.address ∙ or_from (eqb l.address k.address) (holds ls k.address) (ne_eqb l.address k.address (λ e. ne (sym e))) d.0,
-      distinct_append ls l d.1 p.1,
-    )
+distinct_append (k ∷ ls) l d h = grind (arith, nat_tests, holds_append ls l k.address, distinct_append ls l)
 
 pub distinct_store_at : (ls : List Line) (a w : ℕ) → Distinct ls → Distinct (store_at ls a w)
 distinct_store_at [] a w d = tt
-distinct_store_at (l ∷ ls) a w d =
-    let ih = distinct_store_at ls a w d.1 in
-    elim (cases_Bool (eqb l.address a)) [ inl t ↦ rw t d | inr t ↦ rw t (holds_store_at ls a w l.address ∙ d.0, ih) ]
+distinct_store_at (l ∷ ls) a w d = grind (arith, holds_store_at ls a w l.address, distinct_store_at ls a w)
 
 holds_left : (ls : List Line) (a : ℕ) → holds (left ls) a ≡ holds ls a
 holds_left [] a = refl
-holds_left (l ∷ ls) a =
-    let ih = holds_left ls a in
-    elim (cases_Bool l.dirty) [ inl t ↦ rw t refl | inr t ↦ rw t (ap (λ x. eqb l.address a || x) ih) ]
+holds_left (l ∷ ls) a = grind (arith, holds_left ls a)
 
 pub distinct_left : (ls : List Line) → Distinct ls → Distinct (left ls)
 distinct_left [] d = tt
-distinct_left (l ∷ ls) d =
-    let ih = distinct_left ls d.1 in
-    elim (cases_Bool l.dirty) [ inl t ↦ rw t d | inr t ↦ rw t (holds_left ls l.address ∙ d.0, ih) ]
+distinct_left (l ∷ ls) d = grind (arith, holds_left ls l.address, distinct_left ls)
 
 -- the tags of different lines, each once
 
 length_tags : (ls : List Line) → length (tags ls) ≡ tag_count ls
 length_tags [] = refl
-length_tags (l ∷ ls) =
-    let ih = length_tags ls in
-    elim (cases_Bool l.tag) [ inl t ↦ rw t (ap suc ih) | inr t ↦ rw t ih ]
+length_tags (l ∷ ls) = grind (arith, length_tags ls)
 
 each_once : (ls : List Line) (a : ℕ) → Distinct ls → times a (tags ls) ≡ cond (tagged ls a) 1 0
 each_once [] a d = refl
-each_once (l ∷ ls) a d =
-    let ih = each_once ls a d.1 in
-    elim (cases_Bool (eqb l.address a)) [
-      | inl e ↦
-          let none_left : tagged ls a ≡ false = untagged ls a (rw (eqb-true l.address a e) at d.0) in
-          elim (cases_Bool l.tag) [ inl t ↦ rw (t, e, ih, none_left) refl | inr t ↦ rw (t, e, ih) refl ]
-      | inr e ↦ elim (cases_Bool l.tag) [ inl t ↦ rw (t, e, ih) refl | inr t ↦ rw (t, e, ih) refl ]
-    ]
+each_once (l ∷ ls) a d = grind (arith, nat_tests, each_once ls a, untagged ls a)
 
 -- copying the tags in the order of the lines is one way
 pub copied : (ls : List Line) (before : List ℕ) → Distinct ls → tag_count ls ≤ length before → TagsCopied ls before (tags ls ++ drop (tag_count ls) before) (tag_count ls)
