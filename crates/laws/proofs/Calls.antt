@@ -1,6 +1,6 @@
 -- Every call keeps the invariant, and so does every list of calls, from making on.
 -- Assumes nothing.
-use Rattle.std.proofs.Common.{◌≡◌, ℕ, zero, suc, ◌<◌, List, [], ◌∷◌, length, get_or, Ok, Err, Result, sym, refl, subst, arith}
+use Rattle.std.proofs.Common.{◌≡◌, ℕ, suc, ◌<◌, List, [], ◌∷◌, length, get_or, Ok, Result, sym, refl, arith}
 use Rattle.std.proofs.lemmas.List.{append_assoc, append-nil}
 use Rattle.std.proofs.lemmas.Bool.Decides.{nat_tests}
 use Rattle.answers.specs.declared.answer.Answer.{Answer}
@@ -17,11 +17,11 @@ use Rattle.model.specs.declared.call.Call.TheVariants.{Step, Turn, Clear, Hold, 
 use Rattle.model.specs.Instructions.{asks, outer_at, inner_at}
 use Rattle.model.specs.Cores.{step_by_state}
 use Rattle.model.specs.Engine.{Engine, Outlet, Settings, make, new_cores, check, blank, core_at, view_of}
-use Rattle.model.specs.Calls.{outcome_of, step, advanced, clear_if, emptied, hold, give_back, take_oldest}
+use Rattle.model.specs.Calls.{outcome_of, step, advanced, clear_if, hold, give_back, take_oldest}
 use Rattle.model.specs.Runs.{event, moved_event, clear_event, hold_event, take_event, played}
 use Rattle.model.specs.Journal.{Journal, Run, new_journal, start_of, note, more, mores, fresh, history}
 use Rattle.laws.proofs.Books.{closed}
-use Rattle.laws.proofs.Invariant.{Good, Booked, Shared, HeldIs, Inv}
+use Rattle.laws.proofs.Invariant.{Good, Booked, Inv}
 use Rattle.laws.proofs.Keeps.{InvAfter}
 use Rattle.laws.proofs.Plain.{stopped, aborted, bypass}
 use Rattle.laws.proofs.Transaction.{transaction}
@@ -65,8 +65,8 @@ clear_kept Free e j f h = record {
   size = refl;
   good = h.good;
   booked = h.booked;
-  shared = subst (λ t. Shared t (emptied e) (note e (clear_event (Ok tt)) j) (start_of e)) (sym f) (refl, sym (append-nil e.outlet.waiting));
-  held = subst (λ t. HeldIs t (emptied e) (note e (clear_event (Ok tt)) j)) (sym f) tt;
+  shared = rw f (refl, sym (append-nil e.outlet.waiting));
+  held = rw f tt;
 }
 clear_kept _ e j f h = h
 
@@ -101,10 +101,8 @@ calls_kept (c ∷ cs) r h = calls_kept cs (more r c) (call_kept r.engine r.journ
 new_cores_lem :
     (r : Result (Unit {0}) CheckRefusal) (places : List ℕ) (program : List Instruction) (m : List ℕ) (k i : ℕ) →
     Good (get_or (new_cores r places) k blank).state program m Free i (get_or (new_cores r places) k blank) × Booked (get_or (new_cores r places) k blank).state closed (get_or (new_cores r places) k blank)
-new_cores_lem (Err f) places program m k i = (tt, refl)
-new_cores_lem (Ok u) [] program m k i = (tt, refl)
-new_cores_lem (Ok u) (x ∷ xs) program m zero i = (tt, refl)
 new_cores_lem (Ok u) (x ∷ xs) program m (suc k) i = new_cores_lem (Ok u) xs program m k i
+new_cores_lem _ _ program m k i = (tt, refl)
 
 -- a new engine
 made : (s : Settings) (m : List ℕ) (o : Outlet) → Inv (make s m o) (new_journal (make s m o))

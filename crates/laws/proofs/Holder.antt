@@ -1,8 +1,8 @@
 -- Steps of the core that has the token: COMMIT, EARLY_FLUSH and EARLY_COMMIT.
 -- Assumes nothing.
-use Rattle.std.proofs.Common.{◌≡◌, ℕ, suc, ◌<◌, true, false, ltb, List, [], ◌∷◌, ◌++◌, length, get_or, sym, refl, ap, ◌∙◌, subst, inl, inr}
+use Rattle.std.proofs.Common.{◌≡◌, ℕ, suc, ◌<◌, true, false, ltb, List, [], ◌∷◌, ◌++◌, length, get_or, sym, refl, ap, ◌∙◌, subst, arith}
 use mathlib.Core.Option.{some}
-use Rattle.std.proofs.lemmas.Bool.{cases_Bool, cond_both, cond-true, eq-eqb}
+use Rattle.std.proofs.lemmas.Bool.{cond_both, eq-eqb}
 use Rattle.answers.specs.declared.answer.Fault.{Fault}
 use Rattle.answers.specs.declared.answer.Fault.TheVariants.{RetryAfterEarly}
 use Rattle.answers.specs.declared.answer.Answer.{Answer}
@@ -23,8 +23,8 @@ use Rattle.model.specs.Lines.{any_dirty, wrote, left}
 use Rattle.model.specs.Cores.{Core, resting, turned_to, performed, settled_place, settled_stopped, freed, becomes, acts, finishes, faulted, ends, in_commit, in_early_flush, in_early_commit}
 use Rattle.model.specs.Engine.{Engine, Outlet, core_at, view_of, change, memory_after, outlet_after}
 use Rattle.model.specs.Journal.{Journal}
-use Rattle.model.specs.Blocks.{Touch, Reads, Writes, Neither, touch}
-use Rattle.laws.proofs.Books.{Book, touches, own_book, opened, has, books}
+use Rattle.model.specs.Blocks.{Touch, touch}
+use Rattle.laws.proofs.Books.{Book, own_book, books}
 use Rattle.laws.proofs.Lines.{overlay, length_overlay, overlay_clean, overlay_left}
 use Rattle.laws.proofs.Invariant.{scene, Good, Booked, Holder, Shared, SentIs, Inv}
 use Rattle.laws.proofs.Keeps.{InvAfter, good_in, booked_in, own_quiet, length_after}
@@ -34,25 +34,15 @@ use Rattle.laws.proofs.Plain.{machine_with, one_more_sent}
 -- writing a line sends nothing
 wrote_sends_nothing : (ls : List Line) (o : Outlet) → outlet_after (wrote ls) o ≡ o
 wrote_sends_nothing [] o = refl
-wrote_sends_nothing (l ∷ ls) o =
-    let ih = wrote_sends_nothing ls o in
-    elim (cases_Bool l.dirty) [ inl t ↦ rw t refl | inr t ↦ rw t ih ]
+wrote_sends_nothing (l ∷ ls) o = grind (arith, wrote_sends_nothing ls o)
 
 -- the last dirty line is written: the memory is as overlaid
 all_written_lem : (ls : List Line) (m : List ℕ) → any_dirty (left ls) ≡ false → overlay ls m ≡ memory_after (wrote ls) m
 all_written_lem ls m h = sym (overlay_left ls m) ∙ overlay_clean (left ls) (memory_after (wrote ls) m) h
 
 -- an open block that is not hit stays so while it performs
-touches_open : (t : Touch) (b : Book) → b.is_open ≡ true → b.hit ≡ false → ((touches t b).is_open ≡ true) × ((touches t b).hit ≡ false)
-touches_open (Reads a) b p q =
-    cond_both (has a b.touched) b (record { is_open = b.is_open; touched = a ∷ b.touched; taken = a ∷ b.taken; hit = b.hit })
-    (λ k. (k.is_open ≡ true) × (k.hit ≡ false)) (λ _. (p, q)) (λ _. (p, q))
-touches_open (Writes a) b p q = (p, q)
-touches_open Neither b p q = (p, q)
-
 running_open : (t : Touch) (b : Book) → b.is_open ≡ true → b.hit ≡ false → ((own_book t Running b).is_open ≡ true) × ((own_book t Running b).hit ≡ false)
-running_open t b p q =
-    subst (λ k. (k.is_open ≡ true) × (k.hit ≡ false)) (sym (cond-true b.is_open (touches t b) opened p)) (touches_open t b p q)
+running_open t b p q = grind arith
 
 module _ (e : Engine) (j : Journal) (h : Inv e j) (i : ℕ) (b : i < length e.cores) (ask : Ask) where
   abbrev c : Core
@@ -60,7 +50,7 @@ module _ (e : Engine) (j : Journal) (h : Inv e j) (i : ℕ) (b : i < length e.co
 
   -- with the token its own
   mine : e.token ≡ CoreHas i → Shared (CoreHas i) e j h.now
-  mine own = subst (λ t. Shared t e j h.now) own h.shared
+  mine own = rw own at h.shared
 
   freed_own : e.token ≡ CoreHas i → freed e.token i ≡ Free
   freed_own own = rw (own, eq-eqb i i refl) refl
@@ -104,9 +94,9 @@ module _ (e : Engine) (j : Journal) (h : Inv e j) (i : ℕ) (b : i < length e.co
   -- COMMIT
   pub commit : c.state ≡ Commit → InvAfter e j i ask (in_commit (view_of e i) c)
   commit st =
-      let own : e.token ≡ CoreHas i = subst (λ s. Good s e.program e.memory e.token i c) st (h.good i) in
-      let book : ((books j.moves i).is_open ≡ true) × ((books j.moves i).hit ≡ false) = subst (λ s. Booked s (books j.moves i) c) st (h.booked i) in
-      let d : inner_at e.program (length e.memory) c.place c.depth c.count ≡ Closes = subst (λ s. Holder s e.program e.memory c) st (mine own).1.state in
+      let own : e.token ≡ CoreHas i = rw st at (h.good i) in
+      let book : ((books j.moves i).is_open ≡ true) × ((books j.moves i).hit ≡ false) = rw st at (h.booked i) in
+      let d : inner_at e.program (length e.memory) c.place c.depth c.count ≡ Closes = rw st at (mine own).1.state in
       let m = memory_after (wrote c.lines) e.memory in
       cond_both (any_dirty (left c.lines)) (acts (view_of e i) (turned_to c Commit (left c.lines)) (wrote c.lines) Committing) (ends (view_of e i) c (wrote c.lines)) (InvAfter e j i ask)
       (λ _. go_on e j h i b ask (turned_to c Commit (left c.lines)) (wrote c.lines) Committing own (rw st refl) (mine own).0
@@ -118,8 +108,8 @@ module _ (e : Engine) (j : Journal) (h : Inv e j) (i : ℕ) (b : i < length e.co
   -- EARLY_FLUSH
   pub early_flush : c.state ≡ EarlyFlush → InvAfter e j i ask (in_early_flush (view_of e i) c)
   early_flush st =
-      let own : e.token ≡ CoreHas i = subst (λ s. Good s e.program e.memory e.token i c) st (h.good i) in
-      let book : ((books j.moves i).is_open ≡ true) × ((books j.moves i).hit ≡ false) = subst (λ s. Booked s (books j.moves i) c) st (h.booked i) in
+      let own : e.token ≡ CoreHas i = rw st at (h.good i) in
+      let book : ((books j.moves i).is_open ≡ true) × ((books j.moves i).hit ≡ false) = rw st at (h.booked i) in
       cond_both (any_dirty (left c.lines))
       (acts (view_of e i) (turned_to c EarlyFlush (left c.lines)) (wrote c.lines) Early) (acts (view_of e i) (turned_to c EarlyCommit []) (wrote c.lines) Early) (InvAfter e j i ask)
       (λ _. go_on e j h i b ask (turned_to c EarlyFlush (left c.lines)) (wrote c.lines) Early own (rw st refl) (mine own).0
@@ -134,13 +124,13 @@ module _ (e : Engine) (j : Journal) (h : Inv e j) (i : ℕ) (b : i < length e.co
   -- EARLY_COMMIT
   module _ (st : c.state ≡ EarlyCommit) where
     own : e.token ≡ CoreHas i
-    own = subst (λ s. Good s e.program e.memory e.token i c) st (h.good i)
+    own = rw st at (h.good i)
 
     book : ((books j.moves i).is_open ≡ true) × ((books j.moves i).hit ≡ false)
-    book = subst (λ s. Booked s (books j.moves i) c) st (h.booked i)
+    book = rw st at (h.booked i)
 
     no_lines : c.lines ≡ []
-    no_lines = subst (λ s. Holder s e.program e.memory c) st (mine own).1.state
+    no_lines = rw st at (mine own).1.state
 
     bare : (m : List ℕ) → overlay c.lines m ≡ m
     bare m = rw no_lines refl

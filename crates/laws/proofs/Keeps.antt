@@ -1,6 +1,6 @@
 -- One step of a core keeps the invariant of all the others.
 -- Assumes nothing.
-use Rattle.std.proofs.Common.{◌≡◌, ℕ, ◌<◌, false, ◌≢◌, List, [], ◌∷◌, ◌++◌, map, length, get_or, set, sym, refl, ap, ◌∙◌, subst, inl, inr, arith}
+use Rattle.std.proofs.Common.{◌≡◌, ℕ, ◌<◌, false, ◌≢◌, List, [], ◌∷◌, ◌++◌, map, length, set, sym, refl, ap, ◌∙◌, subst, inl, inr, arith}
 use mathlib.Core.Option.{some}
 use lib.ListN.{length-map, get_or-map}
 use Rattle.std.proofs.lemmas.List.{length-set, get_or-set_same, get_or-set_other, map-set}
@@ -90,17 +90,11 @@ core_own e i o b = get_or-set_same (map (struck o.effect) e.cores) i o.core blan
 
 -- another core
 pub core_other : (e : Engine) (i k : ℕ) (o : Outcome) → k ≢ i → core_at (change e i o) k ≡ struck o.effect (core_at e k)
-core_other e i k o ne =
-    get_or-set_other (map (struck o.effect) e.cores) i k o.core blank ne
-    ∙ ap (get_or (map (struck o.effect) e.cores) k) (sym (struck_blank o.effect))
-    ∙ get_or-map (struck o.effect) e.cores k blank
-
-settle_struck : (x : Effect) (c : Core) → settle (struck x c) ≡ settle c
-settle_struck x c = grind arith
+core_other e i k o ne = grind (arith, struck_blank o.effect, get_or-set_other (map (struck o.effect) e.cores) i k o.core blank, get_or-map (struck o.effect) e.cores k blank)
 
 settle_map : (x : Effect) (cs : List Core) → map settle (map (struck x) cs) ≡ map settle cs
 settle_map x [] = refl
-settle_map x (c ∷ cs) = rw (settle_struck x c, settle_map x cs) refl
+settle_map x (c ∷ cs) = grind (arith, settle_map x cs)
 
 -- the settled cores after a step
 pub settle_change : (e : Engine) (i : ℕ) (o : Outcome) → map settle (change e i o).cores ≡ set (map settle e.cores) i (settle o.core)

@@ -1,14 +1,14 @@
 -- The kinds of outcome that a step can have, each with what it owes for the invariant.
 -- Assumes nothing.
-use Rattle.std.proofs.Common.{◌≡◌, ℕ, ◌<◌, false, ◌≢◌, List, length, set, sym, refl, ap, ◌∙◌, subst}
+use Rattle.std.proofs.Common.{◌≡◌, ℕ, ◌<◌, false, List, length, set, sym, refl, ap, ◌∙◌, arith}
 use mathlib.Core.Option.{some}
 use Rattle.std.proofs.lemmas.List.{set-get_or, append-nil}
-use Rattle.std.proofs.lemmas.Bool.{ne_eqb}
+use Rattle.std.proofs.lemmas.Bool.Decides.{nat_tests}
 use Rattle.answers.specs.declared.answer.Answer.{Answer}
 use Rattle.formats.specs.declared.entry.Mark.{Mark}
 use Rattle.formats.specs.declared.entry.SentEntry.{SentEntry}
 use Rattle.model.specs.declared.state.Token.{Token}
-use Rattle.model.specs.declared.state.Token.TheVariants.{Free, Core as CoreHas, Host}
+use Rattle.model.specs.declared.state.Token.TheVariants.{Free, Core as CoreHas}
 use Rattle.model.specs.Instructions.{Ask}
 use Rattle.model.specs.OneAtATime.{Machine, no_core, run, unit}
 use Rattle.model.specs.declared.effect.Effect.{Effect}
@@ -19,7 +19,7 @@ use Rattle.model.specs.Journal.{Journal}
 use Rattle.model.specs.Blocks.{touch}
 use Rattle.laws.proofs.Books.{own_book, books}
 use Rattle.laws.proofs.Invariant.{scene, Good, Booked, Holder, Holding, Shared, SentIs, Inv}
-use Rattle.laws.proofs.Keeps.{Quiet, InvAfter, Own, kept_own, kept_aside, free_quiet, own_quiet}
+use Rattle.laws.proofs.Keeps.{Quiet, InvAfter, kept_own, kept_aside, free_quiet, own_quiet}
 use Rattle.laws.proofs.Turns.{core_settled, ran_more}
 
 -- a core that is not in one of the three states of the one that has the token
@@ -51,11 +51,7 @@ only_core e j h i b ask c' answer not_i s g k =
 
 -- the token stays where it is when a core finishes that has it not
 freed_aside : (t : Token) (e : Engine) (j : Journal) (now : Machine) (i : ℕ) → NoHolder e i → Shared t e j now → freed t i ≡ t
-freed_aside Free e j now i not_i w = refl
-freed_aside (CoreHas k) e j now i not_i w =
-    let ne : k ≢ i = λ same. not_i (rw same at w.1.state) in
-    rw (ne_eqb k i ne) refl
-freed_aside Host e j now i not_i w = refl
+freed_aside t e j now i not_i w = grind (arith, nat_tests)
 
 -- what a unit's entry brings the machine to
 pub record UnitIs (e : Engine) (j : Journal) (h : Inv e j) (i : ℕ) (mark : Mark) (n : ℕ) (c' : Core) : Type 0 where
@@ -106,7 +102,7 @@ finish_free e j h i b ask c' x mark n answer q f u l m s g k =
       good = g;
       booked = k;
     })
-    (subst (λ t. Own t e j i o u.machine) (sym f) (m, s))
+    (rw f (m, s))
 
 -- a core that found the token free takes it
 pub take_token :
@@ -147,4 +143,4 @@ go_on e j h i b ask c' x answer f s l w v g k =
       good = g;
       booked = k;
     })
-    (subst (λ t. Own t e j i o h.now) (sym f) (refl, (l, w, v)))
+    (rw f (refl, (l, w, v)))

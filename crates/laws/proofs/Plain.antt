@@ -1,6 +1,6 @@
 -- Steps of a core outside every block, stopped, or sent to roll back.
 -- Assumes nothing.
-use Rattle.std.proofs.Common.{◌≡◌, ℕ, ◌<◌, false, ltb, List, [], ◌∷◌, ◌++◌, length, get_or, set, sym, refl, ap, ◌∙◌, subst}
+use Rattle.std.proofs.Common.{◌≡◌, ℕ, ◌<◌, false, ltb, List, [], ◌∷◌, ◌++◌, length, get_or, set, refl}
 use Rattle.std.proofs.lemmas.List.{append_assoc, length-set}
 use Rattle.std.proofs.lemmas.Bool.{cond_both}
 use Rattle.answers.specs.declared.answer.Answer.TheVariants.{Running, Waiting, Done, Full, RolledBack, Faulted, Stopped as SaysStopped}
@@ -9,7 +9,7 @@ use Rattle.formats.specs.declared.entry.SentEntry.{SentEntry}
 use Rattle.model.specs.declared.state.State.{State}
 use Rattle.model.specs.declared.state.State.TheVariants.{Bypass, Transaction, Abort, Stopped}
 use Rattle.model.specs.declared.state.Token.{Token}
-use Rattle.model.specs.declared.state.Token.TheVariants.{Free, Core as CoreHas, Host}
+use Rattle.model.specs.declared.state.Token.TheVariants.{Free}
 use Rattle.model.specs.declared.place.Place.{Place}
 use Rattle.model.specs.Instructions.{Ask, onward, past, Outer, OuterFaults, OuterMoves, OuterLoads, OuterStores, OuterSends, Opens, Stops, outer_at}
 use Rattle.model.specs.OneAtATime.{Machine}
@@ -20,7 +20,7 @@ use Rattle.model.specs.Engine.{Engine, core_at, view_of, change, memory_after}
 use Rattle.model.specs.Journal.{Journal}
 use Rattle.model.specs.Blocks.{touch}
 use Rattle.laws.proofs.Books.{own_book, books}
-use Rattle.laws.proofs.Invariant.{Good, Booked, Holder, Shared, SentIs, Inv}
+use Rattle.laws.proofs.Invariant.{Good, Booked, Shared, SentIs, Inv}
 use Rattle.laws.proofs.Keeps.{InvAfter, free_quiet}
 use Rattle.laws.proofs.Leaves.{NoHolder, UnitIs, only_core, finish_aside, finish_free}
 
@@ -29,12 +29,11 @@ pub if_free_lem :
     (t : Token) (e : Engine) (j : Journal) (i : ℕ) (ask : Ask) (x y : Outcome) → e.token ≡ t →
     (e.token ≡ Free → InvAfter e j i ask x) → InvAfter e j i ask y → InvAfter e j i ask (if_free t x y)
 if_free_lem Free e j i ask x y f p q = p f
-if_free_lem (CoreHas k) e j i ask x y f p q = q
-if_free_lem Host e j i ask x y f p q = q
+if_free_lem _ e j i ask x y f p q = q
 
 -- with the token free, memory and sent words are the machine's
 pub when_free : (e : Engine) (j : Journal) (h : Inv e j) → e.token ≡ Free → Shared Free e j h.now
-when_free e j h f = subst (λ t. Shared t e j h.now) f h.shared
+when_free e j h f = rw f at h.shared
 
 -- a core that stays as it is
 pub waits : (e : Engine) (j : Journal) (h : Inv e j) (i : ℕ) → i < length e.cores → (ask : Ask) → NoHolder e i → InvAfter e j i ask (becomes (view_of e i) (core_at e i) Waiting)
@@ -44,23 +43,23 @@ waits e j h i b ask not_i = only_core e j h i b ask (core_at e i) Waiting not_i 
 pub stopped : (e : Engine) (j : Journal) (h : Inv e j) (i : ℕ) → i < length e.cores → (ask : Ask) → (core_at e i).state ≡ Stopped → InvAfter e j i ask (step_by_state Stopped (view_of e i) (core_at e i))
 stopped e j h i b ask st =
     only_core e j h i b ask (core_at e i) SaysStopped
-    (λ w. subst (λ s. Holder s e.program e.memory (core_at e i)) st w)
+    (λ w. rw st at w)
     refl (h.good i) (h.booked i)
 
 -- ABORT
 pub aborted : (e : Engine) (j : Journal) (h : Inv e j) (i : ℕ) → i < length e.cores → (ask : Ask) → (core_at e i).state ≡ Abort → InvAfter e j i ask (step_by_state Abort (view_of e i) (core_at e i))
 aborted e j h i b ask st =
     only_core e j h i b ask (rolled_back (core_at e i)) RolledBack
-    (λ w. subst (λ s. Holder s e.program e.memory (core_at e i)) st w)
+    (λ w. rw st at w)
     (rw st refl) tt refl
 
 -- no block is open
 booked_bypass : (e : Engine) (j : Journal) (h : Inv e j) (i : ℕ) → (core_at e i).state ≡ Bypass → (books j.moves i).is_open ≡ false
-booked_bypass e j h i st = subst (λ s. Booked s (books j.moves i) (core_at e i)) st (h.booked i)
+booked_bypass e j h i st = rw st at (h.booked i)
 
 -- one more entry is sent
 pub one_more_sent : (taken waiting before sent : List SentEntry) (y : SentEntry) → taken ++ waiting ≡ before ++ sent → taken ++ (waiting ++ y ∷ []) ≡ before ++ (sent ++ y ∷ [])
-one_more_sent taken waiting before sent y p = sym (append_assoc taken waiting (y ∷ [])) ∙ ap (λ l. l ++ y ∷ []) p ∙ append_assoc before sent (y ∷ [])
+one_more_sent taken waiting before sent y p = rw (← append_assoc taken waiting (y ∷ []), p) (append_assoc before sent (y ∷ []))
 
 -- the machine with a core elsewhere, and memory and sent words
 abbrev pub machine_with : Machine → ℕ → Core → List ℕ → List SentEntry → Machine
@@ -68,7 +67,7 @@ machine_with now i c' m s = record { memory = m; sent = s; cores = set now.cores
 
 module _ (e : Engine) (j : Journal) (h : Inv e j) (i : ℕ) (b : i < length e.cores) (ask : Ask) (st : (core_at e i).state ≡ Bypass) where
   not_i : NoHolder e i
-  not_i w = subst (λ s. Holder s e.program e.memory (core_at e i)) st w
+  not_i w = rw st at w
 
   -- a plain instruction that neither reads, writes nor sends
   plain_aside :

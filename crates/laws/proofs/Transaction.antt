@@ -23,7 +23,7 @@ use Rattle.model.specs.Blocks.{touch}
 use Rattle.laws.proofs.Books.{touches, opened, books}
 use Rattle.laws.proofs.Lines.{overlay, length_overlay, overlay_append, overlay_clean, get_or_overlay, get_or_overlay_other, overlay_store_at}
 use Rattle.laws.proofs.Lines.{Agree, holds_append, tagged_append, holds_store_at, tagged_store_at, fit_append, fit_store_at, fit_agree}
-use Rattle.laws.proofs.Invariant.{scene, Follows, Good, Booked, Tracks, Holder, Inv}
+use Rattle.laws.proofs.Invariant.{scene, Follows, Booked, Tracks, Inv}
 use Rattle.laws.proofs.Keeps.{InvAfter, good_in, booked_in, free_quiet}
 use Rattle.laws.proofs.Leaves.{NoHolder, only_core, finish_free, take_token}
 use Rattle.laws.proofs.Plain.{if_free_lem, when_free, waits, machine_with}
@@ -37,13 +37,13 @@ module _ (e : Engine) (j : Journal) (h : Inv e j) (i : ℕ) (b : i < length e.co
   ask = asks e.program c.place
 
   not_i : NoHolder e i
-  not_i w = subst (λ s. Holder s e.program e.memory c) st w
+  not_i w = rw st at w
 
   follows : Follows e.program e.memory c
-  follows = subst (λ s. Good s e.program e.memory e.token i c) st (h.good i)
+  follows = rw st at (h.good i)
 
   tracks : Tracks (books j.moves i) c
-  tracks = subst (λ s. Booked s (books j.moves i) c) st (h.booked i)
+  tracks = rw st at (h.booked i)
 
   saved_place : settled_place c.state c ≡ c.saved
   saved_place = rw st refl
