@@ -1,6 +1,6 @@
 -- Steps of the core that has the token: COMMIT, EARLY_FLUSH and EARLY_COMMIT.
 -- Assumes nothing.
-use Rattle.std.proofs.Common.{◌≡◌, ℕ, suc, ◌<◌, true, false, ltb, List, [], ◌∷◌, ◌++◌, length, get_or, sym, refl, ap, ◌∙◌, subst, arith}
+use Rattle.std.proofs.Common.{◌≡◌, ℕ, suc, ◌<◌, true, false, ltb, List, [], ◌∷◌, ◌++◌, length, get_or, sym, refl, ap, ◌∙◌, arith}
 use mathlib.Core.Option.{some}
 use Rattle.std.proofs.lemmas.Bool.{cond_both, eq-eqb}
 use Rattle.answers.specs.declared.answer.Fault.{Fault}
@@ -11,7 +11,7 @@ use Rattle.formats.specs.declared.entry.Mark.{Mark}
 use Rattle.formats.specs.declared.entry.Mark.TheVariants.{Completed, Kept}
 use Rattle.formats.specs.declared.entry.SentEntry.{SentEntry}
 use Rattle.model.specs.declared.state.State.TheVariants.{Bypass, Commit, EarlyFlush, EarlyCommit, Stopped}
-use Rattle.model.specs.declared.state.Token.TheVariants.{Free, Core as CoreHas}
+use Rattle.model.specs.declared.state.Token.TheVariants.{Core as CoreHas}
 use Rattle.model.specs.declared.place.Place.{Place}
 use Rattle.model.specs.Instructions.{Ask, onward, past, inner_at}
 use Rattle.model.specs.Instructions.{Inner, InnerFaults, InnerMoves, InnerLoads, InnerStores, InnerSends, Closes, Restarts, TakesToken}
@@ -26,10 +26,10 @@ use Rattle.model.specs.Journal.{Journal}
 use Rattle.model.specs.Blocks.{Touch, touch}
 use Rattle.laws.proofs.Books.{Book, own_book, books}
 use Rattle.laws.proofs.Lines.{overlay, length_overlay, overlay_clean, overlay_left}
-use Rattle.laws.proofs.Invariant.{scene, Good, Booked, Holder, Shared, SentIs, Inv}
-use Rattle.laws.proofs.Keeps.{InvAfter, good_in, booked_in, own_quiet, length_after}
+use Rattle.laws.proofs.Invariant.{scene, Good, Booked, Shared, SentIs, Inv}
+use Rattle.laws.proofs.Keeps.{InvAfter, length_after}
 use Rattle.laws.proofs.Leaves.{UnitIs, finish_free, go_on}
-use Rattle.laws.proofs.Plain.{machine_with, one_more_sent}
+use Rattle.laws.proofs.Plain.{one_more_sent}
 
 -- writing a line sends nothing
 wrote_sends_nothing : (ls : List Line) (o : Outlet) → outlet_after (wrote ls) o ≡ o
@@ -52,19 +52,14 @@ module _ (e : Engine) (j : Journal) (h : Inv e j) (i : ℕ) (b : i < length e.co
   mine : e.token ≡ CoreHas i → Shared (CoreHas i) e j h.now
   mine own = rw own at h.shared
 
-  freed_own : e.token ≡ CoreHas i → freed e.token i ≡ Free
-  freed_own own = rw (own, eq-eqb i i refl) refl
-
   -- the core finishes and frees the token
   finish_own :
       (c' : Core) (x : Effect) (mark : Mark) (n : ℕ) (answer : Answer) (own : e.token ≡ CoreHas i) →
-      (u : UnitIs e j h i mark n c') → u.machine.memory ≡ memory_after x e.memory →
-      SentIs (change e i (finishes (view_of e i) c' x mark n answer)) j u.machine.sent →
+      (u : UnitIs e j h i mark n c') → u.memory ≡ memory_after x e.memory →
+      SentIs (change e i (finishes (view_of e i) c' x mark n answer)) j u.sent →
       Good c'.state e.program (memory_after x e.memory) (freed e.token i) i c' → Booked c'.state (own_book (touch ask) answer (books j.moves i)) c' →
       InvAfter e j i ask (finishes (view_of e i) c' x mark n answer)
-  finish_own c' x mark n answer own u m s g k =
-      finish_free e j h i b ask c' x mark n answer (own_quiet x e.token (freed e.token i) i own) (freed_own own) u
-      (ap length m ∙ length_after x e.memory) m s g k
+  finish_own c' x mark n answer own u m s g k = finish_free e j h i b ask c' x mark n answer (rw (own, eq-eqb i i refl) refl) u m s g k
 
   -- the next instruction of the block, alone
   held_more :
@@ -84,10 +79,10 @@ module _ (e : Engine) (j : Journal) (h : Inv e j) (i : ℕ) (b : i < length e.co
       finish_own c' x Completed (suc c.count) Done own
       (record {
         alive = alive;
-        machine = machine_with h.now i c' (overlay c.lines e.memory) (mine own).0;
+        memory = overlay c.lines e.memory;
+        sent = (mine own).0;
         is = ap (λ p. unit e.program h.now i Completed (suc c.count) (run e.program (scene p h.now.memory h.now.sent) (suc c.count))) place
             ∙ ap (λ r. unit e.program h.now i Completed (suc c.count) r) (held_more own Closes d);
-        cores = refl;
       })
       m (rw o (mine own).2) tt refl
 
@@ -144,12 +139,12 @@ module _ (e : Engine) (j : Journal) (h : Inv e j) (i : ℕ) (b : i < length e.co
     performs p depth x s r v =
         go_on e j h i b ask (performed c p depth c.lines) x Running own (rw st refl) s
         (record {
-          state = subst (λ y. Holder y e.program (memory_after x e.memory) (performed c p depth c.lines)) (sym st) no_lines;
+          state = rw st no_lines;
           alone = r ∙ ap (λ m. Inside depth (scene p m s)) (sym (bare (memory_after x e.memory)));
         })
         v
-        (good_in EarlyCommit e.program (memory_after x e.memory) e.token i (performed c p depth c.lines) st own)
-        (booked_in EarlyCommit (own_book (touch ask) Running (books j.moves i)) (performed c p depth c.lines) st (running_open (touch ask) (books j.moves i) book.0 book.1))
+        (rw st own)
+        (rw st (running_open (touch ask) (books j.moves i) book.0 book.1))
 
     -- the block's run with one more instruction, with no lines left
     bare_more :
@@ -166,9 +161,9 @@ module _ (e : Engine) (j : Journal) (h : Inv e j) (i : ℕ) (b : i < length e.co
         finish_own c' Nothing Kept c.count (Faulted f c.place.pc) own
         (record {
           alive = rw st refl;
-          machine = machine_with h.now i c' (overlay c.lines e.memory) (mine own).0;
+          memory = overlay c.lines e.memory;
+          sent = (mine own).0;
           is = rw (st, (mine own).1.alone, length_overlay c.lines e.memory, d, q) refl;
-          cores = refl;
         })
         (bare e.memory) (mine own).2 tt refl
 

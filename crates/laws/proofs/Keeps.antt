@@ -1,14 +1,12 @@
 -- One step of a core keeps the invariant of all the others.
 -- Assumes nothing.
-use Rattle.std.proofs.Common.{◌≡◌, ℕ, ◌<◌, false, ◌≢◌, List, [], ◌∷◌, ◌++◌, map, length, set, sym, refl, ap, ◌∙◌, subst, inl, inr, arith}
+use Rattle.std.proofs.Common.{◌≡◌, ℕ, ◌<◌, false, ◌≢◌, List, [], ◌∷◌, ◌++◌, map, length, set, sym, refl, ap, ◌∙◌, inl, inr, arith}
 use mathlib.Core.Option.{some}
 use lib.ListN.{length-map, get_or-map}
 use Rattle.std.proofs.lemmas.List.{length-set, get_or-set_same, get_or-set_other, map-set}
-use Rattle.std.proofs.lemmas.Bool.{cases_Bool, cases_eq, eq-eqb, ne_eqb, or_from, or_right}
+use Rattle.std.proofs.lemmas.Bool.{cases_eq, eq-eqb, ne_eqb}
 use Rattle.formats.specs.declared.entry.SentEntry.{SentEntry}
 use Rattle.formats.specs.declared.instruction.Instruction.{Instruction}
-use Rattle.model.specs.declared.state.State.{State}
-use Rattle.model.specs.declared.state.State.TheVariants.{Transaction}
 use Rattle.model.specs.declared.state.Token.{Token}
 use Rattle.model.specs.declared.state.Token.TheVariants.{Free, Core as CoreHas, Host}
 use Rattle.model.specs.Instructions.{Ask}
@@ -17,11 +15,11 @@ use Rattle.model.specs.declared.effect.Effect.{Effect}
 use Rattle.model.specs.declared.effect.Effect.TheVariants.{Nothing, Wrote, Sent}
 use Rattle.model.specs.Lines.{tagged}
 use Rattle.model.specs.Cores.{Core, settle, Outcome}
-use Rattle.model.specs.Engine.{Engine, core_at, blank, change, struck, struck_at, memory_after}
+use Rattle.model.specs.Engine.{Engine, core_at, blank, change, struck, memory_after}
 use Rattle.model.specs.Runs.{Moved}
 use Rattle.model.specs.Journal.{Journal, note}
 use Rattle.model.specs.Blocks.{touch}
-use Rattle.laws.proofs.Books.{Book, own_book, other_book, has, books}
+use Rattle.laws.proofs.Books.{Book, own_book, other_book, books}
 use Rattle.laws.proofs.Lines.{fit_set}
 use Rattle.laws.proofs.Invariant.{Follows, Good, Booked, Holding, Holder, Shared, SentIs, HeldIs, Inv}
 
@@ -31,39 +29,6 @@ follows_write program m c a w f h = record {
   fit = fit_set c.lines m a w f.fit h;
   alone = λ m' s n agree. f.alone m' s (n ∙ length-set m a w) (λ b t. grind (arith, agree b, get_or-set_other m a b w 0));
 }
-
--- a core is in its state
-pub good_in : (s : State) (program : List Instruction) (m : List ℕ) (t : Token) (k : ℕ) (c : Core) → c.state ≡ s → Good s program m t k c → Good c.state program m t k c
-good_in s program m t k c e g = subst (λ x. Good x program m t k c) (sym e) g
-
-pub booked_in : (s : State) (b : Book) (c : Core) → c.state ≡ s → Booked s b c → Booked c.state b c
-booked_in s b c e g = subst (λ x. Booked x b c) (sym e) g
-
--- another core's write
-pub other_write :
-    (s : State) (program : List Instruction) (m : List ℕ) (t t' : Token) (k : ℕ) (c : Core) (b : Book) (a w : ℕ) →
-    c.state ≡ s → (t ≡ CoreHas k → ⊥) → Good s program m t k c → Booked s b c →
-    Good (struck_at s a c).state program (set m a w) t' k (struck_at s a c) × Booked (struck_at s a c).state (other_book (Wrote a w) b) (struck_at s a c)
-other_write Transaction program m t t' k c b a w e apart g p =
-    elim (cases_Bool (tagged c.lines a)) [
-      | inl q ↦ rw q (tt, (p.is_open, or_right b.hit (has a b.taken) (p.taken a ∙ q)))
-      | inr q ↦ rw q (
-        good_in Transaction program (set m a w) t' k c e (follows_write program m c a w g q),
-        booked_in Transaction (other_book (Wrote a w) b) c e (record {
-          is_open = p.is_open;
-          hit = or_from b.hit (has a b.taken) p.hit (p.taken a ∙ q);
-          taken = p.taken;
-          touched = p.touched;
-        }),
-      )
-    ]
-other_write _ program m t t' k c b a w e apart g p = grind arith
-
--- another core's step that writes nothing
-pub other_still :
-    (s : State) (program : List Instruction) (m : List ℕ) (t t' : Token) (k : ℕ) (c : Core) →
-    (t ≡ CoreHas k → t' ≡ CoreHas k) → Good s program m t k c → Good s program m t' k c
-other_still s program m t t' k c same g = grind arith
 
 -- a core disturbs no other that has the token: it writes and sends nothing then, and leaves the token where it is
 abbrev pub Quiet : Effect → Token → Token → ℕ → Type 0
@@ -76,9 +41,8 @@ other :
     (x : Effect) (program : List Instruction) (m : List ℕ) (t t' : Token) (i k : ℕ) (c : Core) (b : Book) →
     k ≢ i → Quiet x t t' i → Good c.state program m t k c → Booked c.state b c →
     Good (struck x c).state program (memory_after x m) t' k (struck x c) × Booked (struck x c).state (other_book x b) (struck x c)
-other Nothing program m t t' i k c b ne q g p = (other_still c.state program m t t' k c (q k ne) g, p)
-other (Wrote a w) program m t t' i k c b ne q g p = other_write c.state program m t t' k c b a w refl (q k ne) g p
-other (Sent x) program m t t' i k c b ne q g p = (other_still c.state program m t t' k c (λ h. absurd (q k ne h)) g, p)
+other (Wrote a w) program m t t' i k c b ne q g p = grind (arith, follows_write program m c a w)
+other _ program m t t' i k c b ne q g p = grind arith
 
 struck_blank : (x : Effect) → struck x blank ≡ blank
 struck_blank Nothing = refl
@@ -160,27 +124,11 @@ Own (CoreHas k) e j i o now =
     (k ≡ i) × ((s : List SentEntry) × Holding e.program now (memory_after o.effect e.memory) s o.core × SentIs (change e i o) j s)
 Own Host e j i o now = ⊥
 
-own_shared :
-    (t : Token) (e : Engine) (j : Journal) (i : ℕ) (ask : Ask) (o : Outcome) (now : Machine) → i < length e.cores →
-    Own t e j i o now →
-    Shared t (change e i o) (note e (Moved i ask o.answer o.effect) j) now × HeldIs t (change e i o) (note e (Moved i ask o.answer o.effect) j)
-own_shared t e j i ask o now b w = grind (arith, core_own e i o b)
-
 -- a step of a core that had the token, or found it free
 pub kept_own :
     (e : Engine) (j : Journal) (h : Inv e j) (i : ℕ) (ask : Ask) (o : Outcome) → i < length e.cores → (p : Step e j h i ask o) →
     Own o.token e j i o p.machine → InvAfter e j i ask o
-kept_own e j h i ask o b p w =
-    let q = own_shared o.token e j i ask o p.machine b w in
-    kept e j h i ask o b p q.0 q.1
-
-aside_shared :
-    (t : Token) (e : Engine) (j : Journal) (i : ℕ) (ask : Ask) (o : Outcome) (now now' : Machine) →
-    o.effect ≡ Nothing → (Holder (core_at e i).state e.program e.memory (core_at e i) → ⊥) →
-    now'.memory ≡ now.memory → now'.sent ≡ now.sent →
-    Shared t e j now → HeldIs t e j →
-    Shared t (change e i o) (note e (Moved i ask o.answer o.effect) j) now' × HeldIs t (change e i o) (note e (Moved i ask o.answer o.effect) j)
-aside_shared t e j i ask o now now' x not_i p q w v = grind (arith, core_other)
+kept_own e j h i ask o b p w = kept e j h i ask o b p (grind (arith, core_own e i o b)) (grind arith)
 
 -- a step of a core that has not the token, and writes and sends nothing
 pub kept_aside :
@@ -188,8 +136,4 @@ pub kept_aside :
     o.effect ≡ Nothing → o.token ≡ e.token → (Holder (core_at e i).state e.program e.memory (core_at e i) → ⊥) →
     p.machine.memory ≡ h.now.memory → p.machine.sent ≡ h.now.sent →
     InvAfter e j i ask o
-kept_aside e j h i ask o b p x t not_i m s =
-    let w = subst (λ y. Shared y e j h.now) (sym t) h.shared in
-    let v = subst (λ y. HeldIs y e j) (sym t) h.held in
-    let q = aside_shared o.token e j i ask o h.now p.machine x not_i m s w v in
-    kept e j h i ask o b p q.0 q.1
+kept_aside e j h i ask o b p x t not_i m s = kept e j h i ask o b p (grind (arith, core_other)) (grind arith)

@@ -1,7 +1,7 @@
 -- Steps of a core outside every block, stopped, or sent to roll back.
 -- Assumes nothing.
 use Rattle.std.proofs.Common.{◌≡◌, ℕ, ◌<◌, false, ltb, List, [], ◌∷◌, ◌++◌, length, get_or, set, refl}
-use Rattle.std.proofs.lemmas.List.{append_assoc, length-set}
+use Rattle.std.proofs.lemmas.List.{append_assoc}
 use Rattle.std.proofs.lemmas.Bool.{cond_both}
 use Rattle.answers.specs.declared.answer.Answer.TheVariants.{Running, Waiting, Done, Full, RolledBack, Faulted, Stopped as SaysStopped}
 use Rattle.formats.specs.declared.entry.Mark.TheVariants.{Completed, Discarded}
@@ -12,16 +12,15 @@ use Rattle.model.specs.declared.state.Token.{Token}
 use Rattle.model.specs.declared.state.Token.TheVariants.{Free}
 use Rattle.model.specs.declared.place.Place.{Place}
 use Rattle.model.specs.Instructions.{Ask, onward, past, Outer, OuterFaults, OuterMoves, OuterLoads, OuterStores, OuterSends, Opens, Stops, outer_at}
-use Rattle.model.specs.OneAtATime.{Machine}
 use Rattle.model.specs.declared.effect.Effect.{Effect}
 use Rattle.model.specs.declared.effect.Effect.TheVariants.{Nothing, Wrote, Sent}
-use Rattle.model.specs.Cores.{Core, Outcome, resting, rolled_back, settle, if_free, freed, becomes, plain, plain_send, in_bypass, step_by_state}
+use Rattle.model.specs.Cores.{Outcome, resting, rolled_back, if_free, freed, becomes, plain, plain_send, in_bypass, step_by_state}
 use Rattle.model.specs.Engine.{Engine, core_at, view_of, change, memory_after}
 use Rattle.model.specs.Journal.{Journal}
 use Rattle.model.specs.Blocks.{touch}
 use Rattle.laws.proofs.Books.{own_book, books}
 use Rattle.laws.proofs.Invariant.{Good, Booked, Shared, SentIs, Inv}
-use Rattle.laws.proofs.Keeps.{InvAfter, free_quiet}
+use Rattle.laws.proofs.Keeps.{InvAfter}
 use Rattle.laws.proofs.Leaves.{NoHolder, UnitIs, only_core, finish_aside, finish_free}
 
 -- one of two outcomes, by whether the token is free
@@ -61,10 +60,6 @@ booked_bypass e j h i st = rw st at (h.booked i)
 pub one_more_sent : (taken waiting before sent : List SentEntry) (y : SentEntry) → taken ++ waiting ≡ before ++ sent → taken ++ (waiting ++ y ∷ []) ≡ before ++ (sent ++ y ∷ [])
 one_more_sent taken waiting before sent y p = rw (← append_assoc taken waiting (y ∷ []), p) (append_assoc before sent (y ∷ []))
 
--- the machine with a core elsewhere, and memory and sent words
-abbrev pub machine_with : Machine → ℕ → Core → List ℕ → List SentEntry → Machine
-machine_with now i c' m s = record { memory = m; sent = s; cores = set now.cores i (settle c') }
-
 module _ (e : Engine) (j : Journal) (h : Inv e j) (i : ℕ) (b : i < length e.cores) (ask : Ask) (st : (core_at e i).state ≡ Bypass) where
   not_i : NoHolder e i
   not_i w = rw st at w
@@ -73,30 +68,28 @@ module _ (e : Engine) (j : Journal) (h : Inv e j) (i : ℕ) (b : i < length e.co
   plain_aside :
       (s : State) (p : Place) → Good s e.program e.memory (freed e.token i) i (resting s p (core_at e i).saved) →
       Booked s (own_book (touch ask) Done (books j.moves i)) (resting s p (core_at e i).saved) →
-      (u : UnitIs e j h i Completed 1 (resting s p (core_at e i).saved)) → u.machine.memory ≡ h.now.memory → u.machine.sent ≡ h.now.sent →
+      (u : UnitIs e j h i Completed 1 (resting s p (core_at e i).saved)) → u.memory ≡ h.now.memory → u.sent ≡ h.now.sent →
       InvAfter e j i ask (plain (view_of e i) (core_at e i) s p Nothing)
   plain_aside s p g k u m n = finish_aside e j h i b ask (resting s p (core_at e i).saved) Completed 1 Done not_i u m n g k
 
   -- a plain instruction with the token free
   plain_free :
       (p : Place) (x : Effect) → e.token ≡ Free →
-      (u : UnitIs e j h i Completed 1 (resting Bypass p (core_at e i).saved)) → u.machine.memory ≡ memory_after x e.memory → length u.machine.memory ≡ length e.memory →
-      SentIs (change e i (plain (view_of e i) (core_at e i) Bypass p x)) j u.machine.sent →
+      (u : UnitIs e j h i Completed 1 (resting Bypass p (core_at e i).saved)) → u.memory ≡ memory_after x e.memory →
+      SentIs (change e i (plain (view_of e i) (core_at e i) Bypass p x)) j u.sent →
       InvAfter e j i ask (plain (view_of e i) (core_at e i) Bypass p x)
-  plain_free p x f u m l n =
-      finish_free e j h i b ask (resting Bypass p (core_at e i).saved) x Completed 1 Done
-      (free_quiet x e.token (freed e.token i) i f) (rw f refl) u l m n tt refl
+  plain_free p x f u m n = finish_free e j h i b ask (resting Bypass p (core_at e i).saved) x Completed 1 Done (rw f refl) u m n tt refl
 
   pub bypass : (o : Outer) → outer_at e.program (length e.memory) (core_at e i).place ≡ o → InvAfter e j i ask (in_bypass (view_of e i) (core_at e i) o)
   bypass (OuterFaults f) d =
       let c' = resting Stopped (core_at e i).place (core_at e i).saved in
       finish_aside e j h i b ask c' Discarded 0 (Faulted f (core_at e i).place.pc) not_i
-      (record { alive = rw st refl; machine = machine_with h.now i c' h.now.memory h.now.sent; is = rw (st, h.size, d) refl; cores = refl })
+      (record { alive = rw st refl; memory = h.now.memory; sent = h.now.sent; is = rw (st, h.size, d) refl })
       refl refl tt refl
   bypass (OuterMoves p) d =
       let c' = resting Bypass p (core_at e i).saved in
       plain_aside Bypass p tt refl
-      (record { alive = rw st refl; machine = machine_with h.now i c' h.now.memory h.now.sent; is = rw (st, h.size, d) refl; cores = refl })
+      (record { alive = rw st refl; memory = h.now.memory; sent = h.now.sent; is = rw (st, h.size, d) refl })
       refl refl
   bypass (OuterLoads a k) d =
       let p = onward (core_at e i).place (k (get_or e.memory a 0)) in
@@ -105,8 +98,8 @@ module _ (e : Engine) (j : Journal) (h : Inv e j) (i : ℕ) (b : i < length e.co
       (λ f.
       let w = when_free e j h f in
       plain_free p Nothing f
-      (record { alive = rw st refl; machine = machine_with h.now i c' e.memory h.now.sent; is = rw (st, w.0, d) refl; cores = refl })
-      refl refl w.1)
+      (record { alive = rw st refl; memory = e.memory; sent = h.now.sent; is = rw (st, w.0, d) refl })
+      refl w.1)
       (waits e j h i b ask not_i)
   bypass (OuterStores a v) d =
       let p = past (core_at e i).place in
@@ -115,8 +108,8 @@ module _ (e : Engine) (j : Journal) (h : Inv e j) (i : ℕ) (b : i < length e.co
       (λ f.
       let w = when_free e j h f in
       plain_free p (Wrote a v) f
-      (record { alive = rw st refl; machine = machine_with h.now i c' (set e.memory a v) h.now.sent; is = rw (st, w.0, d) refl; cores = refl })
-      refl (length-set e.memory a v) w.1)
+      (record { alive = rw st refl; memory = set e.memory a v; sent = h.now.sent; is = rw (st, w.0, d) refl })
+      refl w.1)
       (waits e j h i b ask not_i)
   bypass (OuterSends y) d =
       let p = past (core_at e i).place in
@@ -126,8 +119,8 @@ module _ (e : Engine) (j : Journal) (h : Inv e j) (i : ℕ) (b : i < length e.co
       let w = when_free e j h f in
       cond_both (ltb 0 e.outlet.room) (plain (view_of e i) (core_at e i) Bypass p (Sent y)) (becomes (view_of e i) (core_at e i) Full) (InvAfter e j i ask)
       (λ _. plain_free p (Sent y) f
-      (record { alive = rw st refl; machine = machine_with h.now i c' e.memory (h.now.sent ++ y ∷ []); is = rw (st, w.0, d) refl; cores = refl })
-      refl refl (one_more_sent j.taken e.outlet.waiting j.waiting h.now.sent y w.1))
+      (record { alive = rw st refl; memory = e.memory; sent = h.now.sent ++ y ∷ []; is = rw (st, w.0, d) refl })
+      refl (one_more_sent j.taken e.outlet.waiting j.waiting h.now.sent y w.1))
       (λ _. only_core e j h i b ask (core_at e i) Full not_i refl (h.good i) (h.booked i)))
       (waits e j h i b ask not_i)
   bypass Opens d =
@@ -139,5 +132,5 @@ module _ (e : Engine) (j : Journal) (h : Inv e j) (i : ℕ) (b : i < length e.co
   bypass Stops d =
       let c' = resting Stopped (past (core_at e i).place) (core_at e i).saved in
       plain_aside Stopped (past (core_at e i).place) tt refl
-      (record { alive = rw st refl; machine = machine_with h.now i c' h.now.memory h.now.sent; is = rw (st, h.size, d) refl; cores = refl })
+      (record { alive = rw st refl; memory = h.now.memory; sent = h.now.sent; is = rw (st, h.size, d) refl })
       refl refl

@@ -16,17 +16,17 @@ use Rattle.model.specs.OneAtATime.{Inside, further, run, unit}
 use Rattle.model.specs.declared.place.Line.{Line}
 use Rattle.model.specs.declared.effect.Effect.TheVariants.{Nothing}
 use Rattle.model.specs.Lines.{holds, value_at, tagged, loaded_line, stored_line, store_at, any_dirty}
-use Rattle.model.specs.Cores.{Core, resting, turned_to, performed, rolled_back, settled_place, freed, becomes, takes_token, faulted, ends, early, closes, in_transaction}
+use Rattle.model.specs.Cores.{Core, resting, turned_to, performed, rolled_back, settled_place, becomes, takes_token, faulted, ends, early, closes, in_transaction}
 use Rattle.model.specs.Engine.{Engine, core_at, view_of}
 use Rattle.model.specs.Journal.{Journal}
 use Rattle.model.specs.Blocks.{touch}
 use Rattle.laws.proofs.Books.{touches, opened, books}
 use Rattle.laws.proofs.Lines.{overlay, length_overlay, overlay_append, overlay_clean, get_or_overlay, get_or_overlay_other, overlay_store_at}
 use Rattle.laws.proofs.Lines.{Agree, holds_append, tagged_append, holds_store_at, tagged_store_at, fit_append, fit_store_at, fit_agree}
-use Rattle.laws.proofs.Invariant.{scene, Follows, Booked, Tracks, Inv}
-use Rattle.laws.proofs.Keeps.{InvAfter, good_in, booked_in, free_quiet}
+use Rattle.laws.proofs.Invariant.{scene, Follows, Good, Booked, Tracks, Inv}
+use Rattle.laws.proofs.Keeps.{InvAfter}
 use Rattle.laws.proofs.Leaves.{NoHolder, only_core, finish_free, take_token}
-use Rattle.laws.proofs.Plain.{if_free_lem, when_free, waits, machine_with}
+use Rattle.laws.proofs.Plain.{if_free_lem, when_free, waits}
 use Rattle.laws.proofs.Decoding.{decoded}
 
 module _ (e : Engine) (j : Journal) (h : Inv e j) (i : ℕ) (b : i < length e.cores) (st : (core_at e i).state ≡ Transaction) where
@@ -65,9 +65,9 @@ module _ (e : Engine) (j : Journal) (h : Inv e j) (i : ℕ) (b : i < length e.co
       InvAfter e j i ask (becomes (view_of e i) (performed c p depth ls) Running)
   runs_on p depth ls f t =
       only_core e j h i b ask (performed c p depth ls) Running not_i (rw st refl)
-      (good_in Transaction e.program e.memory e.token i (performed c p depth ls) st f)
-      (subst (λ k. Booked c.state k (performed c p depth ls)) (sym (cond-true (books j.moves i).is_open (touches (touch ask) (books j.moves i)) opened tracks.is_open))
-      (booked_in Transaction (touches (touch ask) (books j.moves i)) (performed c p depth ls) st t))
+      (subst (λ s. Good s e.program e.memory e.token i (performed c p depth ls)) (sym st) f)
+      (rw (cond-true (books j.moves i).is_open (touches (touch ask) (books j.moves i)) opened tracks.is_open)
+      (subst (λ s. Booked s (touches (touch ask) (books j.moves i)) (performed c p depth ls)) (sym st) t))
 
   -- the core takes the token to commit early
   takes_early : InvAfter e j i ask (early (view_of e i) c)
@@ -90,15 +90,9 @@ module _ (e : Engine) (j : Journal) (h : Inv e j) (i : ℕ) (b : i < length e.co
   faults f d =
       let c' = resting Stopped c.place c.saved in
       if_free_lem e.token e j i ask (faulted (view_of e i) c Discarded c.count f) (becomes (view_of e i) c Waiting) refl
-      (λ q. finish_free e j h i b ask c' Nothing Discarded c.count (Faulted f c.place.pc)
-      (free_quiet Nothing e.token (freed e.token i) i q) (rw q refl)
-      (record {
-        alive = rw st refl;
-        machine = machine_with h.now i c' h.now.memory h.now.sent;
-        is = rw (st, alone_now q, length_overlay c.lines e.memory, d) refl;
-        cores = refl;
-      })
-      h.size (when_free e j h q).0 (when_free e j h q).1 tt refl)
+      (λ q. finish_free e j h i b ask c' Nothing Discarded c.count (Faulted f c.place.pc) (rw q refl)
+      (record { alive = rw st refl; memory = h.now.memory; sent = h.now.sent; is = rw (st, alone_now q, length_overlay c.lines e.memory, d) refl })
+      (when_free e j h q).0 (when_free e j h q).1 tt refl)
       (waits e j h i b ask not_i)
 
   -- the block ends, or goes to write its lines
@@ -109,17 +103,15 @@ module _ (e : Engine) (j : Journal) (h : Inv e j) (i : ℕ) (b : i < length e.co
       (λ q.
       cond_both (any_dirty c.lines) (takes_token (view_of e i) (turned_to c Commit c.lines) Committing) (ends (view_of e i) c Nothing) (InvAfter e j i ask)
       (λ _. take_token e j h i b ask (turned_to c Commit c.lines) Committing q (rw st refl) (record { state = d; alone = alone_now q }) (when_free e j h q).1 refl (tracks.is_open, tracks.hit))
-      (λ clean. finish_free e j h i b ask c' Nothing Completed (suc c.count) Done
-      (free_quiet Nothing e.token (freed e.token i) i q) (rw q refl)
+      (λ clean. finish_free e j h i b ask c' Nothing Completed (suc c.count) Done (rw q refl)
       (record {
         alive = rw st refl;
-        machine = machine_with h.now i c' (overlay c.lines h.now.memory) h.now.sent;
+        memory = overlay c.lines h.now.memory;
+        sent = h.now.sent;
         is = ap (λ p. unit e.program h.now i Completed (suc c.count) (run e.program (scene p h.now.memory h.now.sent) (suc c.count))) saved_place
             ∙ ap (λ r. unit e.program h.now i Completed (suc c.count) r)
             (alone_more Closes d h.now.memory h.now.sent h.size (λ a t. ap (λ m. get_or m a 0) (when_free e j h q).0));
-        cores = refl;
       })
-      (length_overlay c.lines h.now.memory ∙ h.size)
       (overlay_clean c.lines h.now.memory clean ∙ (when_free e j h q).0) (when_free e j h q).1 tt refl))
       (waits e j h i b ask not_i)
 
