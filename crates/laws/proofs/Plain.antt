@@ -14,7 +14,7 @@ use Rattle.model.specs.declared.place.Place.{Place}
 use Rattle.model.specs.Instructions.{Ask, onward, past, Outer, OuterFaults, OuterMoves, OuterLoads, OuterStores, OuterSends, Opens, Stops, outer_at}
 use Rattle.model.specs.declared.effect.Effect.{Effect}
 use Rattle.model.specs.declared.effect.Effect.TheVariants.{Nothing, Wrote, Sent}
-use Rattle.model.specs.Cores.{Outcome, resting, rolled_back, if_free, freed, becomes, plain, plain_send, in_bypass, step_by_state}
+use Rattle.model.specs.Cores.{Outcome, resting, rolled_back, if_free, freed, becomes, plain, in_bypass, step_by_state}
 use Rattle.model.specs.Engine.{Engine, core_at, view_of, change, memory_after}
 use Rattle.model.specs.Journal.{Journal}
 use Rattle.model.specs.Blocks.{touch}
@@ -23,38 +23,29 @@ use Rattle.laws.proofs.Invariant.{Good, Booked, Shared, SentIs, Inv}
 use Rattle.laws.proofs.Keeps.{InvAfter}
 use Rattle.laws.proofs.Leaves.{NoHolder, UnitIs, only_core, finish_aside, finish_free}
 
--- one of two outcomes, by whether the token is free
-pub if_free_lem :
-    (t : Token) (e : Engine) (j : Journal) (i : ℕ) (ask : Ask) (x y : Outcome) → e.token ≡ t →
-    (e.token ≡ Free → InvAfter e j i ask x) → InvAfter e j i ask y → InvAfter e j i ask (if_free t x y)
-if_free_lem Free e j i ask x y f p q = p f
-if_free_lem _ e j i ask x y f p q = q
-
 -- with the token free, memory and sent words are the machine's
 pub when_free : (e : Engine) (j : Journal) (h : Inv e j) → e.token ≡ Free → Shared Free e j h.now
 when_free e j h f = rw f at h.shared
 
--- a core that stays as it is
-pub waits : (e : Engine) (j : Journal) (h : Inv e j) (i : ℕ) → i < length e.cores → (ask : Ask) → NoHolder e i → InvAfter e j i ask (becomes (view_of e i) (core_at e i) Waiting)
-waits e j h i b ask not_i = only_core e j h i b ask (core_at e i) Waiting not_i refl (h.good i) (h.booked i)
+-- a core that waits unless the token is free
+pub once_free :
+    (e : Engine) (j : Journal) (h : Inv e j) (i : ℕ) → i < length e.cores → (ask : Ask) (x : Outcome) → NoHolder e i →
+    (e.token ≡ Free → InvAfter e j i ask x) → InvAfter e j i ask (if_free e.token x (becomes (view_of e i) (core_at e i) Waiting))
+once_free e j h i b ask x not_i p = by_token e.token refl
+  where
+    by_token : (t : Token) → e.token ≡ t → InvAfter e j i ask (if_free t x (becomes (view_of e i) (core_at e i) Waiting))
+    by_token Free f = p f
+    by_token _ f = only_core e j h i b ask (core_at e i) Waiting not_i refl (h.good i) (h.booked i)
 
 -- STOPPED
 pub stopped : (e : Engine) (j : Journal) (h : Inv e j) (i : ℕ) → i < length e.cores → (ask : Ask) → (core_at e i).state ≡ Stopped → InvAfter e j i ask (step_by_state Stopped (view_of e i) (core_at e i))
 stopped e j h i b ask st =
-    only_core e j h i b ask (core_at e i) SaysStopped
-    (λ w. rw st at w)
-    refl (h.good i) (h.booked i)
+    only_core e j h i b ask (core_at e i) SaysStopped (λ w. rw st at w) refl (h.good i) (h.booked i)
 
 -- ABORT
 pub aborted : (e : Engine) (j : Journal) (h : Inv e j) (i : ℕ) → i < length e.cores → (ask : Ask) → (core_at e i).state ≡ Abort → InvAfter e j i ask (step_by_state Abort (view_of e i) (core_at e i))
 aborted e j h i b ask st =
-    only_core e j h i b ask (rolled_back (core_at e i)) RolledBack
-    (λ w. rw st at w)
-    (rw st refl) tt refl
-
--- no block is open
-booked_bypass : (e : Engine) (j : Journal) (h : Inv e j) (i : ℕ) → (core_at e i).state ≡ Bypass → (books j.moves i).is_open ≡ false
-booked_bypass e j h i st = rw st at (h.booked i)
+    only_core e j h i b ask (rolled_back (core_at e i)) RolledBack (λ w. rw st at w) (rw st refl) tt refl
 
 -- one more entry is sent
 pub one_more_sent : (taken waiting before sent : List SentEntry) (y : SentEntry) → taken ++ waiting ≡ before ++ sent → taken ++ (waiting ++ y ∷ []) ≡ before ++ (sent ++ y ∷ [])
@@ -87,50 +78,40 @@ module _ (e : Engine) (j : Journal) (h : Inv e j) (i : ℕ) (b : i < length e.co
       (record { alive = rw st refl; memory = h.now.memory; sent = h.now.sent; is = rw (st, h.size, d) refl })
       refl refl tt refl
   bypass (OuterMoves p) d =
-      let c' = resting Bypass p (core_at e i).saved in
       plain_aside Bypass p tt refl
       (record { alive = rw st refl; memory = h.now.memory; sent = h.now.sent; is = rw (st, h.size, d) refl })
       refl refl
   bypass (OuterLoads a k) d =
-      let p = onward (core_at e i).place (k (get_or e.memory a 0)) in
-      let c' = resting Bypass p (core_at e i).saved in
-      if_free_lem e.token e j i ask (plain (view_of e i) (core_at e i) Bypass p Nothing) (becomes (view_of e i) (core_at e i) Waiting) refl
+      once_free e j h i b ask _ not_i
       (λ f.
       let w = when_free e j h f in
-      plain_free p Nothing f
+      plain_free (onward (core_at e i).place (k (get_or e.memory a 0))) Nothing f
       (record { alive = rw st refl; memory = e.memory; sent = h.now.sent; is = rw (st, w.0, d) refl })
       refl w.1)
-      (waits e j h i b ask not_i)
   bypass (OuterStores a v) d =
-      let p = past (core_at e i).place in
-      let c' = resting Bypass p (core_at e i).saved in
-      if_free_lem e.token e j i ask (plain (view_of e i) (core_at e i) Bypass p (Wrote a v)) (becomes (view_of e i) (core_at e i) Waiting) refl
+      once_free e j h i b ask _ not_i
       (λ f.
       let w = when_free e j h f in
-      plain_free p (Wrote a v) f
+      plain_free (past (core_at e i).place) (Wrote a v) f
       (record { alive = rw st refl; memory = set e.memory a v; sent = h.now.sent; is = rw (st, w.0, d) refl })
       refl w.1)
-      (waits e j h i b ask not_i)
   bypass (OuterSends y) d =
-      let p = past (core_at e i).place in
-      let c' = resting Bypass p (core_at e i).saved in
-      if_free_lem e.token e j i ask (plain_send (view_of e i) (core_at e i) e.outlet.room (Sent y)) (becomes (view_of e i) (core_at e i) Waiting) refl
+      once_free e j h i b ask _ not_i
       (λ f.
       let w = when_free e j h f in
-      cond_both (ltb 0 e.outlet.room) (plain (view_of e i) (core_at e i) Bypass p (Sent y)) (becomes (view_of e i) (core_at e i) Full) (InvAfter e j i ask)
-      (λ _. plain_free p (Sent y) f
+      cond_both (ltb 0 e.outlet.room) _ _ (InvAfter e j i ask)
+      (λ _. plain_free (past (core_at e i).place) (Sent y) f
       (record { alive = rw st refl; memory = e.memory; sent = h.now.sent ++ y ∷ []; is = rw (st, w.0, d) refl })
       refl (one_more_sent j.taken e.outlet.waiting j.waiting h.now.sent y w.1))
       (λ _. only_core e j h i b ask (core_at e i) Full not_i refl (h.good i) (h.booked i)))
-      (waits e j h i b ask not_i)
   bypass Opens d =
+      let closed : (books j.moves i).is_open ≡ false = rw st at (h.booked i) in
       only_core e j h i b ask
       (record { state = Transaction; place = past (core_at e i).place; saved = (core_at e i).place; depth = 1; count = 1; lines = [] })
       Running not_i (rw st refl)
       (record { fit = tt; alone = λ m' s n agree. rw (n, d) refl })
-      (rw (booked_bypass e j h i st) (record { is_open = refl; hit = refl; taken = λ a. refl; touched = λ a. refl }))
+      (rw closed (record { is_open = refl; hit = refl; taken = λ a. refl; touched = λ a. refl }))
   bypass Stops d =
-      let c' = resting Stopped (past (core_at e i).place) (core_at e i).saved in
       plain_aside Stopped (past (core_at e i).place) tt refl
       (record { alive = rw st refl; memory = h.now.memory; sent = h.now.sent; is = rw (st, h.size, d) refl })
       refl refl

@@ -4,7 +4,7 @@ use Rattle.std.proofs.Common.{◌≡◌, ℕ, suc, ◌<◌, true, false, ◌&&�
 use mathlib.Core.Bool.{and-true, and-false}
 use Rattle.std.proofs.lemmas.Bool.{cases_Bool, cond_both, cond-true, eqb-true, eq-eqb, or_left, or_right, true≢false}
 use Rattle.answers.specs.declared.answer.Fault.{Fault}
-use Rattle.answers.specs.declared.answer.Answer.TheVariants.{Running, Waiting, Done, Committing, Early, Retried, Faulted}
+use Rattle.answers.specs.declared.answer.Answer.TheVariants.{Running, Done, Committing, Early, Retried, Faulted}
 use Rattle.formats.specs.declared.entry.Mark.TheVariants.{Completed, Discarded}
 use Rattle.formats.specs.declared.entry.SentEntry.{SentEntry}
 use Rattle.model.specs.declared.state.State.TheVariants.{Bypass, Transaction, Commit, EarlyFlush, EarlyCommit, Stopped}
@@ -26,7 +26,7 @@ use Rattle.laws.proofs.Lines.{Agree, holds_append, tagged_append, holds_store_at
 use Rattle.laws.proofs.Invariant.{scene, Follows, Good, Booked, Tracks, Inv}
 use Rattle.laws.proofs.Keeps.{InvAfter}
 use Rattle.laws.proofs.Leaves.{NoHolder, only_core, finish_free, take_token}
-use Rattle.laws.proofs.Plain.{if_free_lem, when_free, waits}
+use Rattle.laws.proofs.Plain.{once_free, when_free}
 use Rattle.laws.proofs.Decoding.{decoded}
 
 module _ (e : Engine) (j : Journal) (h : Inv e j) (i : ℕ) (b : i < length e.cores) (st : (core_at e i).state ≡ Transaction) where
@@ -72,14 +72,13 @@ module _ (e : Engine) (j : Journal) (h : Inv e j) (i : ℕ) (b : i < length e.co
   -- the core takes the token to commit early
   takes_early : InvAfter e j i ask (early (view_of e i) c)
   takes_early =
-      if_free_lem e.token e j i ask _ (becomes (view_of e i) c Waiting) refl
+      once_free e j h i b ask _ not_i
       (λ f.
       cond_both (any_dirty c.lines) (turned_to c EarlyFlush c.lines) (turned_to c EarlyCommit []) (λ c'. InvAfter e j i ask (takes_token (view_of e i) c' Early))
       (λ q. take_token e j h i b ask (turned_to c EarlyFlush c.lines) Early f (rw st refl) (record { state = tt; alone = alone_now f }) (when_free e j h f).1 refl (tracks.is_open, tracks.hit))
       (λ q. take_token e j h i b ask (turned_to c EarlyCommit []) Early f (rw st refl)
       (record { state = refl; alone = rw (← (overlay_clean c.lines e.memory q)) (alone_now f) })
       (when_free e j h f).1 refl (tracks.is_open, tracks.hit)))
-      (waits e j h i b ask not_i)
 
   -- what the instruction comes to, decoded
   abbrev Comes : Inner → Type 0
@@ -89,17 +88,16 @@ module _ (e : Engine) (j : Journal) (h : Inv e j) (i : ℕ) (b : i < length e.co
   faults : (f : Fault) → Comes (InnerFaults f) → InvAfter e j i ask (in_transaction (view_of e i) c (InnerFaults f))
   faults f d =
       let c' = resting Stopped c.place c.saved in
-      if_free_lem e.token e j i ask (faulted (view_of e i) c Discarded c.count f) (becomes (view_of e i) c Waiting) refl
+      once_free e j h i b ask (faulted (view_of e i) c Discarded c.count f) not_i
       (λ q. finish_free e j h i b ask c' Nothing Discarded c.count (Faulted f c.place.pc) (rw q refl)
       (record { alive = rw st refl; memory = h.now.memory; sent = h.now.sent; is = rw (st, alone_now q, length_overlay c.lines e.memory, d) refl })
       (when_free e j h q).0 (when_free e j h q).1 tt refl)
-      (waits e j h i b ask not_i)
 
   -- the block ends, or goes to write its lines
   ending : Comes Closes → InvAfter e j i ask (in_transaction (view_of e i) c Closes)
   ending d =
       let c' = resting Bypass (past c.place) c.saved in
-      if_free_lem e.token e j i ask (closes (view_of e i) c) (becomes (view_of e i) c Waiting) refl
+      once_free e j h i b ask (closes (view_of e i) c) not_i
       (λ q.
       cond_both (any_dirty c.lines) (takes_token (view_of e i) (turned_to c Commit c.lines) Committing) (ends (view_of e i) c Nothing) (InvAfter e j i ask)
       (λ _. take_token e j h i b ask (turned_to c Commit c.lines) Committing q (rw st refl) (record { state = d; alone = alone_now q }) (when_free e j h q).1 refl (tracks.is_open, tracks.hit))
@@ -113,7 +111,6 @@ module _ (e : Engine) (j : Journal) (h : Inv e j) (i : ℕ) (b : i < length e.co
             (alone_more Closes d h.now.memory h.now.sent h.size (λ a t. ap (λ m. get_or m a 0) (when_free e j h q).0));
       })
       (overlay_clean c.lines h.now.memory clean ∙ (when_free e j h q).0) (when_free e j h q).1 tt refl))
-      (waits e j h i b ask not_i)
 
   -- only pc, registers and depth move
   moves : (p : Place) (depth : ℕ) → Comes (InnerMoves p depth) → InvAfter e j i ask (in_transaction (view_of e i) c (InnerMoves p depth))
