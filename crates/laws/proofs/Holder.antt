@@ -15,7 +15,7 @@ use Rattle.model.specs.declared.state.Token.TheVariants.{Core as CoreHas}
 use Rattle.model.specs.declared.place.Place.{Place}
 use Rattle.model.specs.Instructions.{Ask, onward, past, inner_at}
 use Rattle.model.specs.Instructions.{Inner, InnerFaults, InnerMoves, InnerLoads, InnerStores, InnerSends, Closes, Restarts, TakesToken}
-use Rattle.model.specs.OneAtATime.{Inside, further, faults_further, run, unit}
+use Rattle.model.specs.OneAtATime.{Inside, further, faults_further, run}
 use Rattle.model.specs.declared.place.Line.{Line}
 use Rattle.model.specs.declared.effect.Effect.{Effect}
 use Rattle.model.specs.declared.effect.Effect.TheVariants.{Nothing, Wrote, Sent}
@@ -28,7 +28,7 @@ use Rattle.laws.proofs.Books.{Book, own_book, books}
 use Rattle.laws.proofs.Lines.{overlay, length_overlay, overlay_clean, overlay_left}
 use Rattle.laws.proofs.Invariant.{scene, Good, Booked, Shared, SentIs, Inv}
 use Rattle.laws.proofs.Keeps.{InvAfter, length_after}
-use Rattle.laws.proofs.Leaves.{UnitIs, finish_free, go_on}
+use Rattle.laws.proofs.Leaves.{UnitIs, unit_from, finish_free, go_on}
 use Rattle.laws.proofs.Plain.{one_more_sent}
 
 -- writing a line sends nothing
@@ -81,8 +81,7 @@ module _ (e : Engine) (j : Journal) (h : Inv e j) (i : ℕ) (b : i < length e.co
         alive = alive;
         memory = overlay c.lines e.memory;
         sent = (mine own).0;
-        is = ap (λ p. unit e.program h.now i Completed (suc c.count) (run e.program (scene p h.now.memory h.now.sent) (suc c.count))) place
-            ∙ ap (λ r. unit e.program h.now i Completed (suc c.count) r) (held_more own Closes d);
+        is = unit_from e j h i Completed (suc c.count) c.saved _ place (held_more own Closes d);
       })
       m (rw o (mine own).2) tt refl
 

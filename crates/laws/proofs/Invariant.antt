@@ -8,6 +8,7 @@ use Rattle.model.specs.declared.state.State.{State}
 use Rattle.model.specs.declared.state.State.TheVariants.{Bypass, Transaction, Commit, Abort, EarlyFlush, EarlyCommit, Stopped}
 use Rattle.model.specs.declared.state.Token.{Token}
 use Rattle.model.specs.declared.state.Token.TheVariants.{Free, Core as CoreHas, Host}
+use Rattle.model.specs.declared.place.Line.{Line}
 use Rattle.model.specs.declared.place.Place.{Place}
 use Rattle.model.specs.Instructions.{Closes, inner_at}
 use Rattle.model.specs.OneAtATime.{Scene, Inside, run, Machine, runs}
@@ -72,17 +73,17 @@ HeldIs Free e j = Unit {0}
 HeldIs (CoreHas k) e j = Unit {0}
 HeldIs Host e j = (then : Machine) × (runs e.program j.held j.start ≡ some then) × (then.memory ≡ e.memory)
 
--- the observer's book of a core in TRANSACTION
-pub record Tracks (b : Book) (c : Core) : Type 0 where
+-- the observer's book of a core in TRANSACTION, by the core's lines
+pub record Tracks (b : Book) (ls : List Line) : Type 0 where
   pub is_open : b.is_open ≡ true
   pub hit : b.hit ≡ false
-  pub taken : (a : ℕ) → has a b.taken ≡ tagged c.lines a
-  pub touched : (a : ℕ) → has a b.touched ≡ holds c.lines a
+  pub taken : (a : ℕ) → has a b.taken ≡ tagged ls a
+  pub touched : (a : ℕ) → has a b.touched ≡ holds ls a
 
 -- the observer's book of a core, by its state
 abbrev pub Booked : State → Book → Core → Type 0
 Booked Bypass b c = b.is_open ≡ false
-Booked Transaction b c = Tracks b c
+Booked Transaction b c = Tracks b c.lines
 Booked Commit b c = (b.is_open ≡ true) × (b.hit ≡ false)
 Booked Abort b c = (b.is_open ≡ true) × (b.hit ≡ true)
 Booked EarlyFlush b c = (b.is_open ≡ true) × (b.hit ≡ false)

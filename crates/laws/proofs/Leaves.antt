@@ -10,7 +10,8 @@ use Rattle.formats.specs.declared.entry.SentEntry.{SentEntry}
 use Rattle.model.specs.declared.state.Token.{Token}
 use Rattle.model.specs.declared.state.Token.TheVariants.{Free, Core as CoreHas}
 use Rattle.model.specs.Instructions.{Ask}
-use Rattle.model.specs.OneAtATime.{Machine, no_core, run, unit}
+use Rattle.model.specs.declared.place.Place.{Place}
+use Rattle.model.specs.OneAtATime.{Machine, Progress, no_core, run, unit}
 use Rattle.model.specs.declared.effect.Effect.{Effect}
 use Rattle.model.specs.declared.effect.Effect.TheVariants.{Nothing}
 use Rattle.model.specs.Cores.{Core, Outcome, settle, settled_stopped, settled_place, freed, becomes, acts, takes_token, finishes}
@@ -71,6 +72,14 @@ pub record UnitIs (e : Engine) (j : Journal) (h : Inv e j) (i : ℕ) (mark : Mar
   pub is :
       unit e.program h.now i mark n (run e.program (scene (settled_place (core_at e i).state (core_at e i)) h.now.memory h.now.sent) n)
       ≡ some (machine_with h.now i c' memory sent)
+
+-- a unit by where the core is settled, and by what running from there comes to
+pub unit_from :
+    (e : Engine) (j : Journal) (h : Inv e j) (i : ℕ) (mark : Mark) (n : ℕ) (p : Place) (r : Progress) →
+    settled_place (core_at e i).state (core_at e i) ≡ p → run e.program (scene p h.now.memory h.now.sent) n ≡ r →
+    unit e.program h.now i mark n (run e.program (scene (settled_place (core_at e i).state (core_at e i)) h.now.memory h.now.sent) n)
+    ≡ unit e.program h.now i mark n r
+unit_from e j h i mark n p r place is = rw (place, is) refl
 
 -- what a step owes that finishes a unit
 abbrev unit_machine :

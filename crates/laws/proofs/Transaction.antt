@@ -1,8 +1,8 @@
 -- Steps of a core in TRANSACTION.
 -- Assumes nothing.
-use Rattle.std.proofs.Common.{◌≡◌, ℕ, suc, ◌<◌, true, false, ◌&&◌, ◌||◌, eqb, ltb, List, [], ◌∷◌, ◌++◌, length, get_or, sym, refl, ap, ◌∙◌, subst, inl, inr}
-use mathlib.Core.Bool.{and-true, and-false}
-use Rattle.std.proofs.lemmas.Bool.{cases_Bool, cond_both, cond-true, eqb-true, eq-eqb, or_left, or_right, true≢false}
+use Rattle.std.proofs.Common.{◌≡◌, ℕ, suc, ◌<◌, true, false, ltb, List, [], ◌∷◌, ◌++◌, length, get_or, sym, refl, ap, ◌∙◌, subst, arith}
+use Rattle.std.proofs.lemmas.Bool.Decides.{nat_tests}
+use Rattle.std.proofs.lemmas.Bool.{cond_both, cond-true}
 use Rattle.answers.specs.declared.answer.Fault.{Fault}
 use Rattle.answers.specs.declared.answer.Answer.TheVariants.{Running, Done, Committing, Early, Retried, Faulted}
 use Rattle.formats.specs.declared.entry.Mark.TheVariants.{Completed, Discarded}
@@ -12,11 +12,11 @@ use Rattle.model.specs.declared.state.Token.TheVariants.{Free}
 use Rattle.model.specs.declared.place.Place.{Place}
 use Rattle.model.specs.Instructions.{Ask, onward, past, asks, inner_at}
 use Rattle.model.specs.Instructions.{Inner, InnerFaults, InnerMoves, InnerLoads, InnerStores, InnerSends, Closes, Restarts, TakesToken}
-use Rattle.model.specs.OneAtATime.{Inside, further, run, unit}
+use Rattle.model.specs.OneAtATime.{Inside, further, run}
 use Rattle.model.specs.declared.place.Line.{Line}
 use Rattle.model.specs.declared.effect.Effect.TheVariants.{Nothing}
-use Rattle.model.specs.Lines.{holds, value_at, tagged, loaded_line, stored_line, store_at, any_dirty}
-use Rattle.model.specs.Cores.{Core, resting, turned_to, performed, rolled_back, settled_place, becomes, takes_token, faulted, ends, early, closes, in_transaction}
+use Rattle.model.specs.Lines.{holds, value_at, loaded_line, stored_line, store_at, any_dirty}
+use Rattle.model.specs.Cores.{Core, resting, turned_to, performed, rolled_back, becomes, takes_token, faulted, ends, early, closes, in_transaction}
 use Rattle.model.specs.Engine.{Engine, core_at, view_of}
 use Rattle.model.specs.Journal.{Journal}
 use Rattle.model.specs.Blocks.{touch}
@@ -25,7 +25,7 @@ use Rattle.laws.proofs.Lines.{overlay, length_overlay, overlay_append, overlay_c
 use Rattle.laws.proofs.Lines.{Agree, holds_append, tagged_append, holds_store_at, tagged_store_at, fit_append, fit_store_at, fit_agree}
 use Rattle.laws.proofs.Invariant.{scene, Follows, Good, Booked, Tracks, Inv}
 use Rattle.laws.proofs.Keeps.{InvAfter}
-use Rattle.laws.proofs.Leaves.{NoHolder, only_core, finish_free, take_token}
+use Rattle.laws.proofs.Leaves.{NoHolder, only_core, unit_from, finish_free, take_token}
 use Rattle.laws.proofs.Plain.{once_free, when_free}
 use Rattle.laws.proofs.Decoding.{decoded}
 
@@ -42,11 +42,8 @@ module _ (e : Engine) (j : Journal) (h : Inv e j) (i : ℕ) (b : i < length e.co
   follows : Follows e.program e.memory c
   follows = rw st at (h.good i)
 
-  tracks : Tracks (books j.moves i) c
+  tracks : Tracks (books j.moves i) c.lines
   tracks = rw st at (h.booked i)
-
-  saved_place : settled_place c.state c ≡ c.saved
-  saved_place = rw st refl
 
   -- with the token free: as many instructions alone on what the machine has
   alone_now : e.token ≡ Free → run e.program (scene c.saved h.now.memory h.now.sent) c.count ≡ Inside c.depth (scene c.place (overlay c.lines e.memory) h.now.sent)
@@ -61,7 +58,7 @@ module _ (e : Engine) (j : Journal) (h : Inv e j) (i : ℕ) (b : i < length e.co
 
   -- the core has performed an instruction of its block
   runs_on :
-      (p : Place) (depth : ℕ) (ls : List Line) → Follows e.program e.memory (performed c p depth ls) → Tracks (touches (touch ask) (books j.moves i)) (performed c p depth ls) →
+      (p : Place) (depth : ℕ) (ls : List Line) → Follows e.program e.memory (performed c p depth ls) → Tracks (touches (touch ask) (books j.moves i)) ls →
       InvAfter e j i ask (becomes (view_of e i) (performed c p depth ls) Running)
   runs_on p depth ls f t =
       only_core e j h i b ask (performed c p depth ls) Running not_i (rw st refl)
@@ -106,9 +103,7 @@ module _ (e : Engine) (j : Journal) (h : Inv e j) (i : ℕ) (b : i < length e.co
         alive = rw st refl;
         memory = overlay c.lines h.now.memory;
         sent = h.now.sent;
-        is = ap (λ p. unit e.program h.now i Completed (suc c.count) (run e.program (scene p h.now.memory h.now.sent) (suc c.count))) saved_place
-            ∙ ap (λ r. unit e.program h.now i Completed (suc c.count) r)
-            (alone_more Closes d h.now.memory h.now.sent h.size (λ a t. ap (λ m. get_or m a 0) (when_free e j h q).0));
+        is = unit_from e j h i Completed (suc c.count) c.saved _ (rw st refl) (alone_more Closes d h.now.memory h.now.sent h.size (λ a t. ap (λ m. get_or m a 0) (when_free e j h q).0));
       })
       (overlay_clean c.lines h.now.memory clean ∙ (when_free e j h q).0) (when_free e j h q).1 tt refl))
 
@@ -117,8 +112,7 @@ module _ (e : Engine) (j : Journal) (h : Inv e j) (i : ℕ) (b : i < length e.co
   moves p depth d =
       runs_on p depth c.lines
       (record { fit = follows.fit; alone = λ m' s n agree. alone_more (InnerMoves p depth) d m' s n agree })
-      (rw (decoded e.program (length e.memory) c.place c.depth c.count (InnerMoves p depth) d)
-      (record { is_open = tracks.is_open; hit = tracks.hit; taken = tracks.taken; touched = tracks.touched }))
+      (rw (decoded e.program (length e.memory) c.place c.depth c.count (InnerMoves p depth) d) tracks)
 
   -- a load of a word that is in a line
   loads_line_lem : (a : ℕ) (k : ℕ → List ℕ) → Comes (InnerLoads a k) → holds c.lines a ≡ true →
@@ -127,12 +121,9 @@ module _ (e : Engine) (j : Journal) (h : Inv e j) (i : ℕ) (b : i < length e.co
       runs_on (onward c.place (k (value_at c.lines a))) c.depth c.lines
       (record {
         fit = follows.fit;
-        alone = λ m' s n agree.
-            alone_more (InnerLoads a k) d m' s n agree
-            ∙ ap (λ w. Inside c.depth (scene (onward c.place (k w)) (overlay c.lines m') s)) (get_or_overlay c.lines m' a (fit_agree c.lines e.memory m' follows.fit n agree) held);
+        alone = λ m' s n agree. rw (alone_more (InnerLoads a k) d m' s n agree, get_or_overlay c.lines m' a (fit_agree c.lines e.memory m' follows.fit n agree) held);
       })
-      (rw ((decoded e.program (length e.memory) c.place c.depth c.count (InnerLoads a k) d).0, tracks.touched a ∙ held)
-      (record { is_open = tracks.is_open; hit = tracks.hit; taken = tracks.taken; touched = tracks.touched }))
+      (rw ((decoded e.program (length e.memory) c.place c.depth c.count (InnerLoads a k) d).0, tracks.touched a ∙ held) tracks)
 
   -- a load that makes a line
   loads_memory : (a : ℕ) (k : ℕ → List ℕ) → Comes (InnerLoads a k) → holds c.lines a ≡ false →
@@ -145,18 +136,16 @@ module _ (e : Engine) (j : Journal) (h : Inv e j) (i : ℕ) (b : i < length e.co
       (record {
         fit = fit_append c.lines l e.memory follows.fit (record { inside = t.1; clean = λ _. (refl, refl) }) absent;
         alone = λ m' s n agree.
-            let old : Agree c.lines e.memory m' = λ q tag. agree q (tagged_append c.lines l q ∙ or_right (eqb a q && true) (tagged c.lines q) tag) in
-            let here : get_or m' a 0 ≡ w = agree a (tagged_append c.lines l a ∙ or_left (eqb a a && true) (tagged c.lines a) (rw (eq-eqb a a refl) refl)) in
-            alone_more (InnerLoads a k) d m' s n old
-            ∙ ap (λ x. Inside c.depth (scene (onward c.place (k x)) (overlay c.lines m') s)) (get_or_overlay_other c.lines m' a absent ∙ here)
-            ∙ ap (λ x. Inside c.depth (scene (onward c.place (k w)) x s)) (sym (overlay_append c.lines l m'));
+            let old : Agree c.lines e.memory m' = λ q tag. agree q (grind (arith, nat_tests, tagged_append c.lines l q)) in
+            let here : get_or m' a 0 ≡ w = agree a (grind (arith, nat_tests, tagged_append c.lines l a)) in
+            rw (alone_more (InnerLoads a k) d m' s n old, get_or_overlay_other c.lines m' a absent, here, overlay_append c.lines l m');
       })
       (rw (t.0, tracks.touched a ∙ absent)
       (record {
         is_open = tracks.is_open;
         hit = tracks.hit;
-        taken = λ q. rw (tracks.taken q) (sym (tagged_append c.lines l q ∙ ap (λ x. x || tagged c.lines q) (and-true (eqb a q))));
-        touched = λ q. rw (tracks.touched q) (sym (holds_append c.lines l q));
+        taken = λ q. grind (arith, tracks.taken q, tagged_append c.lines l q);
+        touched = λ q. grind (arith, tracks.touched q, holds_append c.lines l q);
       }))
 
   -- a store to a line
@@ -169,19 +158,15 @@ module _ (e : Engine) (j : Journal) (h : Inv e j) (i : ℕ) (b : i < length e.co
         fit = fit_store_at c.lines a w e.memory follows.fit;
         alone = λ m' s n agree.
             let old : Agree c.lines e.memory m' = λ q tag. agree q (tagged_store_at c.lines a w q ∙ tag) in
-            alone_more (InnerStores a w) d m' s n old
-            ∙ ap (λ x. Inside c.depth (scene (past c.place) x s)) (sym (overlay_store_at c.lines m' a w (fit_agree c.lines e.memory m' follows.fit n old) held));
+            rw (alone_more (InnerStores a w) d m' s n old, overlay_store_at c.lines m' a w (fit_agree c.lines e.memory m' follows.fit n old) held);
       })
       (rw t.0
       (record {
         is_open = tracks.is_open;
         hit = tracks.hit;
         taken = λ q. tracks.taken q ∙ sym (tagged_store_at c.lines a w q);
-        touched = λ q. ap (λ x. eqb a q || x) (tracks.touched q) ∙ again a q held ∙ sym (holds_store_at c.lines a w q);
+        touched = λ q. grind (arith, nat_tests, tracks.touched q, holds_store_at c.lines a w q);
       }))
-    where
-      again : (a q : ℕ) → holds c.lines a ≡ true → (eqb a q || holds c.lines q) ≡ holds c.lines q
-      again a q held = elim (cases_Bool (eqb a q)) [ inl t ↦ rw t (sym (rw (eqb-true a q t) at held)) | inr t ↦ rw t refl ]
 
   -- a store that makes a line
   stores_memory : (a w : ℕ) → Comes (InnerStores a w) → holds c.lines a ≡ false →
@@ -191,18 +176,17 @@ module _ (e : Engine) (j : Journal) (h : Inv e j) (i : ℕ) (b : i < length e.co
       let t = decoded e.program (length e.memory) c.place c.depth c.count (InnerStores a w) d in
       runs_on (past c.place) c.depth (c.lines ++ l ∷ [])
       (record {
-        fit = fit_append c.lines l e.memory follows.fit (record { inside = t.1; clean = λ dirty. absurd (true≢false dirty) }) absent;
+        fit = fit_append c.lines l e.memory follows.fit (record { inside = t.1; clean = λ dirty. cc }) absent;
         alone = λ m' s n agree.
-            let old : Agree c.lines e.memory m' = λ q tag. agree q (tagged_append c.lines l q ∙ or_right (eqb a q && false) (tagged c.lines q) tag) in
-            alone_more (InnerStores a w) d m' s n old
-            ∙ ap (λ x. Inside c.depth (scene (past c.place) x s)) (sym (overlay_append c.lines l m'));
+            let old : Agree c.lines e.memory m' = λ q tag. agree q (grind (arith, nat_tests, tagged_append c.lines l q)) in
+            rw (alone_more (InnerStores a w) d m' s n old, overlay_append c.lines l m');
       })
       (rw t.0
       (record {
         is_open = tracks.is_open;
         hit = tracks.hit;
-        taken = λ q. tracks.taken q ∙ sym (tagged_append c.lines l q ∙ ap (λ x. x || tagged c.lines q) (and-false (eqb a q)));
-        touched = λ q. rw (tracks.touched q) (sym (holds_append c.lines l q));
+        taken = λ q. grind (arith, tracks.taken q, tagged_append c.lines l q);
+        touched = λ q. grind (arith, tracks.touched q, holds_append c.lines l q);
       }))
 
   -- a step, by what the instruction comes to
