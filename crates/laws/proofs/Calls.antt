@@ -14,7 +14,7 @@ use Rattle.model.specs.declared.refusal.CheckRefusal.{CheckRefusal}
 use Rattle.model.specs.declared.refusal.StepRefusal.{StepRefusal}
 use Rattle.model.specs.declared.call.Call.{Call}
 use Rattle.model.specs.declared.call.Call.TheVariants.{Step, Turn, Clear, Hold, Read, GiveBack, Take}
-use Rattle.model.specs.Instructions.{asks, outer_at, inner_at}
+use Rattle.model.specs.Instructions.{asks}
 use Rattle.model.specs.Cores.{step_by_state}
 use Rattle.model.specs.Engine.{Engine, Outlet, Settings, make, new_cores, check, blank, core_at, view_of}
 use Rattle.model.specs.Calls.{outcome_of, step, advanced, clear_if, hold, give_back, take_oldest}
@@ -31,14 +31,13 @@ use Rattle.laws.proofs.Holder.{commit, early_flush, early_commit}
 state_kept :
     (s : State) (e : Engine) (j : Journal) (h : Inv e j) (i : ℕ) → i < length e.cores → (core_at e i).state ≡ s →
     InvAfter e j i (asks e.program (core_at e i).place) (step_by_state s (view_of e i) (core_at e i))
-state_kept Bypass e j h i b st = bypass e j h i b (asks e.program (core_at e i).place) st (outer_at e.program (length e.memory) (core_at e i).place) refl
-state_kept Transaction e j h i b st = transaction e j h i b st (inner_at e.program (length e.memory) (core_at e i).place (core_at e i).depth (core_at e i).count) refl
-state_kept Commit e j h i b st = commit e j h i b (asks e.program (core_at e i).place) st
-state_kept Abort e j h i b st = aborted e j h i b (asks e.program (core_at e i).place) st
-state_kept EarlyFlush e j h i b st = early_flush e j h i b (asks e.program (core_at e i).place) st
-state_kept EarlyCommit e j h i b st =
-    early_commit e j h i b (asks e.program (core_at e i).place) st (inner_at e.program (length e.memory) (core_at e i).place (core_at e i).depth (core_at e i).count) refl
-state_kept Stopped e j h i b st = stopped e j h i b (asks e.program (core_at e i).place) st
+state_kept Bypass e j h i b st = bypass e j h i b _ st _ refl
+state_kept Transaction e j h i b st = transaction e j h i b st _ refl
+state_kept Commit e j h i b st = commit e j h i b _ st
+state_kept Abort e j h i b st = aborted e j h i b _ st
+state_kept EarlyFlush e j h i b st = early_flush e j h i b _ st
+state_kept EarlyCommit e j h i b st = early_commit e j h i b _ st _ refl
+state_kept Stopped e j h i b st = stopped e j h i b _ st
 
 -- a step that is not refused
 stepped_kept : (e : Engine) (j : Journal) (h : Inv e j) (i : ℕ) → i < length e.cores → InvAfter e j i (asks e.program (core_at e i).place) (outcome_of e i)
@@ -51,10 +50,6 @@ step_kept e j h i = grind (arith, nat_tests, stepped_kept e j h i)
 -- the core that is next is no matter
 advanced_kept : (r : Result Answer StepRefusal) (e : Engine) (j : Journal) → Inv e j → Inv (advanced r e) j
 advanced_kept r e j h = grind arith
-
--- turn
-turn_kept : (e : Engine) (j : Journal) (h : Inv e j) → Inv (advanced (step e e.next).answer (step e e.next).engine) (note e (moved_event e e.next (step e e.next).answer) j)
-turn_kept e j h = advanced_kept (step e e.next).answer (step e e.next).engine (note e (moved_event e e.next (step e e.next).answer) j) (step_kept e j h e.next)
 
 -- clear
 clear_kept : (t : Token) (e : Engine) (j : Journal) → e.token ≡ t → Inv e j → Inv (clear_if t e).engine (note e (clear_event (clear_if t e).answer) j)
@@ -85,7 +80,7 @@ take_kept e j h = grind (arith, append_assoc {A = SentEntry})
 -- every call
 call_kept : (e : Engine) (j : Journal) (h : Inv e j) (c : Call) → Inv (played e c) (note e (event e c) j)
 call_kept e j h (Step i) = step_kept e j h i
-call_kept e j h Turn = turn_kept e j h
+call_kept e j h Turn = advanced_kept _ _ _ (step_kept e j h e.next)
 call_kept e j h Clear = clear_kept e.token e j refl h
 call_kept e j h Hold = hold_kept e j h
 call_kept e j h (Read a) = h

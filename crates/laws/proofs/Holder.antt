@@ -1,17 +1,15 @@
 -- Steps of the core that has the token: COMMIT, EARLY_FLUSH and EARLY_COMMIT.
 -- Assumes nothing.
-use Rattle.std.proofs.Common.{◌≡◌, ℕ, suc, ◌<◌, true, false, ltb, List, [], ◌∷◌, ◌++◌, length, get_or, sym, refl, ap, ◌∙◌, arith}
+use Rattle.std.proofs.Common.{◌≡◌, ℕ, suc, ◌<◌, true, false, ltb, List, [], ◌∷◌, ◌++◌, length, get_or, sym, refl, ◌∙◌, arith}
 use mathlib.Core.Option.{some}
 use Rattle.std.proofs.lemmas.Bool.{cond_both, eq-eqb}
 use Rattle.answers.specs.declared.answer.Fault.{Fault}
 use Rattle.answers.specs.declared.answer.Fault.TheVariants.{RetryAfterEarly}
-use Rattle.answers.specs.declared.answer.Answer.{Answer}
 use Rattle.answers.specs.declared.answer.Answer.TheVariants.{Running, Done, Committing, Early, Full, Faulted}
-use Rattle.formats.specs.declared.entry.Mark.{Mark}
 use Rattle.formats.specs.declared.entry.Mark.TheVariants.{Completed, Kept}
 use Rattle.formats.specs.declared.entry.SentEntry.{SentEntry}
 use Rattle.model.specs.declared.state.State.TheVariants.{Bypass, Commit, EarlyFlush, EarlyCommit, Stopped}
-use Rattle.model.specs.declared.state.Token.TheVariants.{Core as CoreHas}
+use Rattle.model.specs.declared.state.Token.TheVariants.{Free, Core as CoreHas}
 use Rattle.model.specs.declared.place.Place.{Place}
 use Rattle.model.specs.Instructions.{Ask, onward, past, inner_at}
 use Rattle.model.specs.Instructions.{Inner, InnerFaults, InnerMoves, InnerLoads, InnerStores, InnerSends, Closes, Restarts, TakesToken}
@@ -20,15 +18,15 @@ use Rattle.model.specs.declared.place.Line.{Line}
 use Rattle.model.specs.declared.effect.Effect.{Effect}
 use Rattle.model.specs.declared.effect.Effect.TheVariants.{Nothing, Wrote, Sent}
 use Rattle.model.specs.Lines.{any_dirty, wrote, left}
-use Rattle.model.specs.Cores.{Core, resting, turned_to, performed, settled_place, settled_stopped, freed, becomes, acts, finishes, faulted, ends, in_commit, in_early_flush, in_early_commit}
+use Rattle.model.specs.Cores.{Core, resting, turned_to, performed, settled_place, settled_stopped, freed, acts, faulted, ends, in_commit, in_early_flush, in_early_commit}
 use Rattle.model.specs.Engine.{Engine, Outlet, core_at, view_of, change, memory_after, outlet_after}
 use Rattle.model.specs.Journal.{Journal}
 use Rattle.model.specs.Blocks.{Touch, touch}
 use Rattle.laws.proofs.Books.{Book, own_book, books}
 use Rattle.laws.proofs.Lines.{overlay, length_overlay, overlay_clean, overlay_left}
-use Rattle.laws.proofs.Invariant.{scene, Good, Booked, Shared, SentIs, Inv}
+use Rattle.laws.proofs.Invariant.{scene, Shared, SentIs, Inv}
 use Rattle.laws.proofs.Keeps.{InvAfter, length_after}
-use Rattle.laws.proofs.Leaves.{UnitIs, unit_from, finish_free, go_on}
+use Rattle.laws.proofs.Leaves.{unit_from, finish_free, go_on}
 use Rattle.laws.proofs.Plain.{one_more_sent}
 
 -- writing a line sends nothing
@@ -52,14 +50,8 @@ module _ (e : Engine) (j : Journal) (h : Inv e j) (i : ℕ) (b : i < length e.co
   mine : e.token ≡ CoreHas i → Shared (CoreHas i) e j h.now
   mine own = rw own at h.shared
 
-  -- the core finishes and frees the token
-  finish_own :
-      (c' : Core) (x : Effect) (mark : Mark) (n : ℕ) (answer : Answer) (own : e.token ≡ CoreHas i) →
-      (u : UnitIs e j h i mark n c') → u.memory ≡ memory_after x e.memory →
-      SentIs (change e i (finishes (view_of e i) c' x mark n answer)) j u.sent →
-      Good c'.state e.program (memory_after x e.memory) (freed e.token i) i c' → Booked c'.state (own_book (touch ask) answer (books j.moves i)) c' →
-      InvAfter e j i ask (finishes (view_of e i) c' x mark n answer)
-  finish_own c' x mark n answer own u m s g k = finish_free e j h i b ask c' x mark n answer (rw (own, eq-eqb i i refl) refl) u m s g k
+  freed_own : e.token ≡ CoreHas i → freed e.token i ≡ Free
+  freed_own own = rw (own, eq-eqb i i refl) refl
 
   -- the next instruction of the block, alone
   held_more :
@@ -76,7 +68,7 @@ module _ (e : Engine) (j : Journal) (h : Inv e j) (i : ℕ) (b : i < length e.co
       InvAfter e j i ask (ends (view_of e i) c x)
   ends_own x own place alive d m o =
       let c' = resting Bypass (past c.place) c.saved in
-      finish_own c' x Completed (suc c.count) Done own
+      finish_free e j h i b ask c' x Completed (suc c.count) Done (freed_own own)
       (record {
         alive = alive;
         memory = overlay c.lines e.memory;
@@ -92,7 +84,7 @@ module _ (e : Engine) (j : Journal) (h : Inv e j) (i : ℕ) (b : i < length e.co
       let book : ((books j.moves i).is_open ≡ true) × ((books j.moves i).hit ≡ false) = rw st at (h.booked i) in
       let d : inner_at e.program (length e.memory) c.place c.depth c.count ≡ Closes = rw st at (mine own).1.state in
       let m = memory_after (wrote c.lines) e.memory in
-      cond_both (any_dirty (left c.lines)) (acts (view_of e i) (turned_to c Commit (left c.lines)) (wrote c.lines) Committing) (ends (view_of e i) c (wrote c.lines)) (InvAfter e j i ask)
+      cond_both (any_dirty (left c.lines)) _ _ (InvAfter e j i ask)
       (λ _. go_on e j h i b ask (turned_to c Commit (left c.lines)) (wrote c.lines) Committing own (rw st refl) (mine own).0
       (record { state = rw (length_after (wrote c.lines) e.memory) d; alone = rw (overlay_left c.lines e.memory) (mine own).1.alone })
       (rw (wrote_sends_nothing c.lines e.outlet) (mine own).2)
@@ -104,8 +96,7 @@ module _ (e : Engine) (j : Journal) (h : Inv e j) (i : ℕ) (b : i < length e.co
   early_flush st =
       let own : e.token ≡ CoreHas i = rw st at (h.good i) in
       let book : ((books j.moves i).is_open ≡ true) × ((books j.moves i).hit ≡ false) = rw st at (h.booked i) in
-      cond_both (any_dirty (left c.lines))
-      (acts (view_of e i) (turned_to c EarlyFlush (left c.lines)) (wrote c.lines) Early) (acts (view_of e i) (turned_to c EarlyCommit []) (wrote c.lines) Early) (InvAfter e j i ask)
+      cond_both (any_dirty (left c.lines)) _ _ (InvAfter e j i ask)
       (λ _. go_on e j h i b ask (turned_to c EarlyFlush (left c.lines)) (wrote c.lines) Early own (rw st refl) (mine own).0
       (record { state = tt; alone = rw (overlay_left c.lines e.memory) (mine own).1.alone })
       (rw (wrote_sends_nothing c.lines e.outlet) (mine own).2)
@@ -139,7 +130,7 @@ module _ (e : Engine) (j : Journal) (h : Inv e j) (i : ℕ) (b : i < length e.co
         go_on e j h i b ask (performed c p depth c.lines) x Running own (rw st refl) s
         (record {
           state = rw st no_lines;
-          alone = r ∙ ap (λ m. Inside depth (scene p m s)) (sym (bare (memory_after x e.memory)));
+          alone = rw (bare (memory_after x e.memory)) r;
         })
         v
         (rw st own)
@@ -149,7 +140,7 @@ module _ (e : Engine) (j : Journal) (h : Inv e j) (i : ℕ) (b : i < length e.co
     bare_more :
         (r : Inner) → inner_at e.program (length e.memory) c.place c.depth c.count ≡ r →
         run e.program (scene c.saved h.now.memory h.now.sent) (suc c.count) ≡ further c.depth (scene c.place e.memory (mine own).0) r
-    bare_more r d = held_more own r d ∙ ap (λ m. further c.depth (scene c.place m (mine own).0) r) (bare e.memory)
+    bare_more r d = rw (bare e.memory) at (held_more own r d)
 
     -- the block faults, and what it wrote and sent stays
     faults_kept_lem : (f : Fault) (r : Inner) → faults_further (scene c.place (overlay c.lines e.memory) (mine own).0) r ≡ some (scene c.place (overlay c.lines e.memory) (mine own).0) →
@@ -157,7 +148,7 @@ module _ (e : Engine) (j : Journal) (h : Inv e j) (i : ℕ) (b : i < length e.co
         InvAfter e j i ask (faulted (view_of e i) c Kept c.count f)
     faults_kept_lem f r q d =
         let c' = resting Stopped c.place c.saved in
-        finish_own c' Nothing Kept c.count (Faulted f c.place.pc) own
+        finish_free e j h i b ask c' Nothing Kept c.count (Faulted f c.place.pc) (freed_own own)
         (record {
           alive = rw st refl;
           memory = overlay c.lines e.memory;
@@ -175,7 +166,7 @@ module _ (e : Engine) (j : Journal) (h : Inv e j) (i : ℕ) (b : i < length e.co
     early_commit (InnerLoads a k) d = performs (onward c.place (k (get_or e.memory a 0))) c.depth Nothing (mine own).0 (bare_more (InnerLoads a k) d) (mine own).2
     early_commit (InnerStores a w) d = performs (past c.place) c.depth (Wrote a w) (mine own).0 (bare_more (InnerStores a w) d) (mine own).2
     early_commit (InnerSends y) d =
-        cond_both (ltb 0 e.outlet.room) (acts (view_of e i) (performed c (past c.place) c.depth c.lines) (Sent y) Running) (becomes (view_of e i) c Full) (InvAfter e j i ask)
+        cond_both (ltb 0 e.outlet.room) _ _ (InvAfter e j i ask)
         (λ _. performs (past c.place) c.depth (Sent y) ((mine own).0 ++ y ∷ []) (bare_more (InnerSends y) d)
         (one_more_sent j.taken e.outlet.waiting j.waiting (mine own).0 y (mine own).2))
         (λ _. go_on e j h i b ask c Nothing Full own refl (mine own).0 (mine own).1 (mine own).2 (h.good i) (h.booked i))

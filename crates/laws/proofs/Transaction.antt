@@ -16,7 +16,7 @@ use Rattle.model.specs.OneAtATime.{Inside, further, run}
 use Rattle.model.specs.declared.place.Line.{Line}
 use Rattle.model.specs.declared.effect.Effect.TheVariants.{Nothing}
 use Rattle.model.specs.Lines.{holds, value_at, loaded_line, stored_line, store_at, any_dirty}
-use Rattle.model.specs.Cores.{Core, resting, turned_to, performed, rolled_back, becomes, takes_token, faulted, ends, early, closes, in_transaction}
+use Rattle.model.specs.Cores.{Core, resting, turned_to, performed, rolled_back, becomes, takes_token, faulted, early, closes, in_transaction}
 use Rattle.model.specs.Engine.{Engine, core_at, view_of}
 use Rattle.model.specs.Journal.{Journal}
 use Rattle.model.specs.Blocks.{touch}
@@ -96,7 +96,7 @@ module _ (e : Engine) (j : Journal) (h : Inv e j) (i : ℕ) (b : i < length e.co
       let c' = resting Bypass (past c.place) c.saved in
       once_free e j h i b ask (closes (view_of e i) c) not_i
       (λ q.
-      cond_both (any_dirty c.lines) (takes_token (view_of e i) (turned_to c Commit c.lines) Committing) (ends (view_of e i) c Nothing) (InvAfter e j i ask)
+      cond_both (any_dirty c.lines) _ _ (InvAfter e j i ask)
       (λ _. take_token e j h i b ask (turned_to c Commit c.lines) Committing q (rw st refl) (record { state = d; alone = alone_now q }) (when_free e j h q).1 refl (tracks.is_open, tracks.hit))
       (λ clean. finish_free e j h i b ask c' Nothing Completed (suc c.count) Done (rw q refl)
       (record {
