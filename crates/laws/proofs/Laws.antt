@@ -1,28 +1,28 @@
 -- The laws, of every run.
 -- Assumes nothing.
-use Rattle.std.proofs.Common.{◌≡◌, List, [], ◌∷◌, take, refl}
+use Rattle.std.proofs.Common.{◌≡◌, List, [], ◌∷◌, take, refl, arith}
+use Rattle.std.proofs.lemmas.List.{append-nil}
+use Rattle.std.proofs.lemmas.Bool.Decides.{nat_tests}
+use Rattle.formats.specs.declared.entry.SentEntry.{SentEntry}
 use Rattle.model.specs.declared.call.Call.{Call}
 use Rattle.model.specs.Engine.{make}
 use Rattle.model.specs.Runs.{plays}
 use Rattle.model.specs.Journal.{Run, more, mores, fresh, history}
 use Rattle.model.specs.Laws.{Serial, RollBack, HeldRead, Observed, Played, Laws}
 use Rattle.laws.proofs.Calls.{always}
-use Rattle.laws.proofs.Serial.{serial_at}
 use Rattle.laws.proofs.RollBack.{roll_back_at}
-use Rattle.laws.proofs.HeldRead.{held_read_at}
-use Rattle.laws.proofs.Observed.{told}
 
 pub serial : Serial
-serial s m o cs = serial_at (history s m o cs) (always s m o cs)
+serial s m o cs n = grind (arith, always s m o cs)
 
 pub roll_back_lem : RollBack
 roll_back_lem s m o cs = roll_back_at (history s m o cs) (always s m o cs)
 
 pub held_read_lem : HeldRead
-held_read_lem s m o cs = held_read_at (history s m o cs) (always s m o cs)
+held_read_lem s m o cs a w p = grind (arith, nat_tests, (always s m o cs).held)
 
 pub observed : Observed
-observed s m o cs = told (history s m o cs)
+observed s m o cs c = grind (arith, append-nil {A = SentEntry})
 
 mores_plays : (cs : List Call) (r : Run) → (mores r cs).engine ≡ plays r.engine cs
 mores_plays [] r = refl

@@ -12,8 +12,5 @@ pub mod Calls
 pub mod Tags
 pub mod Apart
 pub mod Blocks
-pub mod Serial
 pub mod RollBack
-pub mod HeldRead
-pub mod Observed
 pub mod Laws
