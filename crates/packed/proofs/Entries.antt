@@ -1,13 +1,14 @@
 -- Where the bytes of an entry stand, and what it unpacks to.
 -- Assumes nothing.
-use Rattle.std.proofs.Common.{◌≡◌, ℕ, suc, ◌+◌, ◌-◌, ◌*◌, ◌/◌, ◌<◌, ◌≤◌, List, ◌++◌, length, take, drop, Ok, Err, Result, sym, ap, ◌∙◌, subst, mul-le-mul_right, suc-mul, div-mul-le_self, arith, length-drop, length-take-le, drop-drop, lt-ltb}
+use Rattle.std.proofs.Common.{◌≡◌, ℕ, suc, ◌+◌, ◌-◌, ◌*◌, ◌/◌, ◌<◌, ◌≤◌, List, length, take, drop, Ok, Err, Result, mul-le-mul_right, suc-mul, div-mul-le_self, arith, length-drop, length-take-le, drop-drop, lt-ltb}
+use Rattle.std.proofs.lemmas.Bool.Decides.{nat_tests}
 use borrow.Rule.Slice.PartMut.{put_mid}
 use Rattle.answers.specs.declared.refusal.Placed.{Placed}
 use Rattle.answers.specs.declared.refusal.ListRefusal.TheVariants.{Entry}
 use Rattle.answers.specs.Refusals.{placed_fault}
 use Rattle.formats.specs.Bytes.{AllBytes, AreBytes, bytes_of, spelled}
 use Rattle.formats.proofs.Bytes.{bytes_again}
-use Rattle.packed.specs.List.{entry_bytes, at_place, entry_at, with_entry}
+use Rattle.packed.specs.List.{entry_bytes, entry_at, with_entry}
 
 -- a whole entry ends inside the bytes
 pub entry_within : (n w i : ℕ) → i < n / w → i * w + w ≤ n
@@ -15,36 +16,26 @@ entry_within n w i h =
     let a : suc i * w ≤ n / w * w = mul-le-mul_right w h in
     omega (arith, suc-mul i w, div-mul-le_self n w)
 
--- an entry that unpacks, and one that does not
-at_place_ok : {E F : Type 0} (place : ℕ) (u : Result E F) (e : E) → placed_fault place u ≡ Ok e → at_place place u ≡ Ok e
-at_place_ok place (Ok x) e is = ap Ok (cc)
-at_place_ok place (Err f) e is = let z : ◌≡◌ {A = ℕ} 0 1 = cc in absurd (omega arith)
-
-at_place_err : {E F : Type 0} (place : ℕ) (u : Result E F) (p : Placed F) → placed_fault place u ≡ Err p → at_place place u ≡ Err (Entry p)
-at_place_err place (Ok x) p is = let z : ◌≡◌ {A = ℕ} 0 1 = cc in absurd (omega arith)
-at_place_err place (Err f) p is = let e : record { fault = f; place = place } ≡ p = cc in ap (λ q. Err (Entry q)) e
-
+-- what stands at a place inside, from what its bytes unpack to
 module _ {E F : Type 0} (w : ℕ) (unpacked : List ℕ → Result E F) (bytes : List ℕ) (place : ℕ) (inside : place < length bytes / w) where
-  -- what stands at a place inside, from what its bytes unpack to
   pub entry_ok : (e : E) → placed_fault place (unpacked (entry_bytes w bytes place)) ≡ Ok e → Ok e ≡ entry_at w unpacked bytes place
-  entry_ok e is = rw (lt-ltb place (length bytes / w) inside) (sym (at_place_ok place (unpacked (entry_bytes w bytes place)) e is))
+  entry_ok e is = grind (arith, nat_tests)
 
   pub entry_err : (p : Placed F) → placed_fault place (unpacked (entry_bytes w bytes place)) ≡ Err p → Err (Entry p) ≡ entry_at w unpacked bytes place
-  entry_err p is = rw (lt-ltb place (length bytes / w) inside) (sym (at_place_err place (unpacked (entry_bytes w bytes place)) p is))
+  entry_err p is = grind (arith, nat_tests)
 
 -- what a write to the entry's bytes leaves
 pub written : (w : ℕ) (packed bytes : List ℕ) (place a : ℕ) → place < length bytes / w → a ≡ place * w → put_mid a w bytes packed ≡ with_entry w packed bytes place
-written w packed bytes place a inside is =
-    rw (lt-ltb place (length bytes / w) inside, is) (ap (λ l. take (place * w) bytes ++ (packed ++ l)) (drop-drop w (place * w) bytes))
+written w packed bytes place a inside is = rw (lt-ltb place (length bytes / w) inside, is, drop-drop w (place * w) bytes)
 
 -- what the number that an entry's bytes spell unpacks to
 pub unpacked_code : {R : Type 0} (w : ℕ) (unpacked : List ℕ → R) (bytes : List ℕ) (place from size code : ℕ) → from ≡ place * w → size ≡ w → from + w ≤ length bytes → code ≡ spelled (take (from + size - from) (drop from bytes)) → AllBytes (take (from + size - from) (drop from bytes)) → unpacked (bytes_of w code) ≡ unpacked (entry_bytes w bytes place)
 unpacked_code w unpacked bytes place from size code start long within is all =
     let wide : from + size - from ≡ w = omega arith in
-    let slice : take (from + size - from) (drop from bytes) ≡ entry_bytes w bytes place = ap (λ n. take n (drop from bytes)) wide ∙ ap (λ n. take w (drop n bytes)) start in
+    let slice : take (from + size - from) (drop from bytes) ≡ entry_bytes w bytes place = rw (wide, start) in
     let sized : length (entry_bytes w bytes place) ≡ w = length-take-le w (drop (place * w) bytes) (omega (arith, length-drop (place * w) bytes)) in
-    ap (λ n. unpacked (bytes_of w n)) (is ∙ ap (λ l. spelled l) slice) ∙ ap unpacked (bytes_again w (entry_bytes w bytes place) (sized, subst AllBytes slice all))
+    rw (is, slice, bytes_again w (entry_bytes w bytes place) (sized, rw slice at all))
 
 -- the bytes that packing writes are the packed form
 pub packed_code : (w k : ℕ) (packed : List ℕ) → AreBytes w packed → k ≡ w → bytes_of k (spelled packed) ≡ packed
-packed_code w k packed sized is = ap (λ n. bytes_of n (spelled packed)) is ∙ bytes_again w packed sized
+packed_code w k packed sized is = rw is (bytes_again w packed sized)

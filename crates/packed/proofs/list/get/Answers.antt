@@ -1,4 +1,4 @@
-use Rattle.std.proofs.Common.{◌≡◌, sym, ap, ◌∙◌}
+use Rattle.std.proofs.Common.{◌≡◌, sym, ◌∙◌}
 use Rattle.answers.specs.Refusals.{placed_fault}
 use Rattle.std.proofs.lemmas.Result.{err_from_is_err_and}
 use Rattle.packed.specs.List.{entry_bytes}
@@ -11,7 +11,7 @@ use Rattle.packed.proofs.list.get.Goals.{After-at_place}
 told : (g : given.Over) (c : After-at_place g) → c.at_place.result ≡ placed_fault c.args.place (g.E.PackedEntry.unpacked (entry_bytes g.E.PackedEntry.width c.args.bytes.now c.args.place))
 told g c =
     let at = c.in-Some.ensures in
-    c.at_place.ensures ∙ ap (placed_fault c.args.place) (c.unpack.ensures ∙ unpacked_code g.E.PackedEntry.width g.E.PackedEntry.unpacked c.args.bytes.now c.args.place c.in-Some.from c.size.result c.spell-code.result at.1 c.size.ensures at.2 c.spell-code.ensures.value c.spell-code.ensures.bytes)
+    rw (c.at_place.ensures, c.unpack.ensures, unpacked_code g.E.PackedEntry.width g.E.PackedEntry.unpacked c.args.bytes.now c.args.place c.in-Some.from c.size.result c.spell-code.result at.1 c.size.ensures at.2 c.spell-code.ensures.value c.spell-code.ensures.bytes)
 
 pub returns-in_err-entry : goal.returns-in_err-entry
 returns-in_err-entry g c =

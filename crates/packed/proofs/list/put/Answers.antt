@@ -1,6 +1,4 @@
-use Rattle.std.proofs.Common.{◌≡◌, ◌+◌, ◌-◌, ◌/◌, length, take, drop, ap, ◌∙◌, arith, length-drop, length-take-le, lt-ltb}
-use borrow.Rule.Slice.PartMut.{put_mid}
-use Rattle.formats.specs.Bytes.{bytes_of}
+use Rattle.std.proofs.Common.{◌≡◌, ◌+◌, ◌-◌, ◌/◌, length, take, drop, ◌∙◌, arith, length-drop, length-take-le, lt-ltb}
 use Rattle.packed.proofs.Entries.{packed_code, written}
 use Rattle.packed.proofs.list.put.Goals as goal
 
@@ -13,8 +11,8 @@ returns g c =
     let at = c.in-Some.ensures in
     let wide : from + c.size.result - from ≡ w = omega (arith, c.size.ensures) in
     let long : length (take (from + c.size.result - from) (drop from bytes)) ≡ w = length-take-le _ (drop from bytes) (omega (arith, at.2, wide, length-drop from bytes)) ∙ wide in
-    let out : c.write.new.out ≡ packed = c.write.ensures ∙ ap (bytes_of (length (take (from + c.size.result - from) (drop from bytes)))) c.pack.ensures ∙ packed_code w (length (take (from + c.size.result - from) (drop from bytes))) packed (g.met.E.PackedEntry.sized c.args.entry) long in
+    let out : c.write.new.out ≡ packed = rw (c.write.ensures, c.pack.ensures) (packed_code w _ packed (g.met.E.PackedEntry.sized c.args.entry) long) in
     record {
-      after = ap (λ l. put_mid from (from + c.size.result - from) bytes l) out ∙ ap (λ n. put_mid from n bytes packed) wide ∙ written w packed bytes c.args.place from at.0 at.1;
+      after = rw (out, wide) (written w packed bytes c.args.place from at.0 at.1);
       answer = rw (lt-ltb c.args.place (length bytes / w) at.0);
     }

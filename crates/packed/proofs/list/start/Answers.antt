@@ -1,4 +1,4 @@
-use Rattle.std.proofs.Common.{ℕ, ◌*◌, ◌/◌, ◌<◌, ap, subst, arith}
+use Rattle.std.proofs.Common.{arith}
 use Rattle.packed.proofs.Entries.{entry_within}
 use Rattle.packed.proofs.list.start.Goals as goal
 
@@ -7,8 +7,5 @@ overflow_mul-result g c = omega (arith, entry_within c.args.len c.size-size.resu
 
 pub returns-then-place-len : goal.returns-then-place-len
 returns-then-place-len g c =
-    let size = c.size-size.ensures in (
-      subst (λ (w : ℕ). c.args.place < c.args.len / w) size c.if-place-len.true,
-      ap (λ (w : ℕ). c.args.place * w) size,
-      omega (arith, size, entry_within c.args.len c.size-size.result c.args.place c.if-place-len.true),
-    )
+    let size = c.size-size.ensures in
+    (rw size at c.if-place-len.true, rw size, omega (arith, size, entry_within c.args.len c.size-size.result c.args.place c.if-place-len.true))
