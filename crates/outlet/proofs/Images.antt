@@ -1,6 +1,7 @@
 -- Sending into a ring of slots in bytes, and taking from it.
-use Rattle.std.proofs.Common.{◌≡◌, ℕ, ◌+◌, ◌-◌, ◌/◌, ◌<◌, ◌≤◌, cond, ltb, List, length, get_or, Some, None, sym, ap, ◌∙◌, arith}
+use Rattle.std.proofs.Common.{◌≡◌, ℕ, ◌+◌, ◌-◌, ◌/◌, ◌<◌, ◌≤◌, cond, ltb, List, length, get_or, Some, None, sym, ◌∙◌, arith}
 use Rattle.std.proofs.lemmas.Bool.{lt-ltb}
+use Rattle.std.proofs.lemmas.Bool.Decides.{nat_tests}
 use Rattle.formats.specs.declared.entry.SentEntry.{SentEntry}
 use base.Fml.{GName}
 use Rattle.outlet.specs.Beside.{over, beside_sent, beside_taken}
@@ -9,39 +10,28 @@ use Rattle.packed.specs.List.{with_entry}
 use Rattle.outlet.specs.Bytes.{entry_in, entries_in, bytes_sent}
 use Rattle.outlet.specs.Ring.{wrapped, ring_of, count_claimed, first_released}
 use Rattle.outlet.specs.Waiting.{sent}
-use Rattle.outlet.proofs.Rings.{wrapped_inside}
 use Rattle.outlet.proofs.Slots.{entries_length, entries_put, entry_at}
-use Rattle.outlet.proofs.Turns.{claimed_room, claimed_place, sends, released_some, released_place}
+use Rattle.outlet.proofs.Turns.{claimed_room, claimed_place, sends}
 
 module _ (bs : List ℕ) (places first count place : ℕ) (whole : places ≡ length bs / 5) (inside : first ≤ places - 1) (v : Some place ≡ cond (ltb count places) (Some (wrapped places (first + count))) None) where
   -- the claimed slot is one of the slots
   pub claimed_inside : place < length bs / 5
-  claimed_inside =
-      let h = claimed_room places first count place v in
-      let p = claimed_place places first count place v in
-      let k = wrapped_inside places first count (omega arith) (omega arith) in
-      omega arith
+  claimed_inside = grind (arith, nat_tests)
 
   -- an entry put there waits behind the others
   pub image_sends : (e : SentEntry) → ring_of (entries_in (with_entry 5 (sent_bytes e) bs place)) first (count + 1) ≡ sent (ring_of (entries_in bs) first count) (places - count) e
-  image_sends e =
-      ap (λ es. ring_of es first (count + 1)) (entries_put bs place e claimed_inside)
-      ∙ sends (entries_in bs) places first count place (entries_length bs ∙ sym whole) inside v e
+  image_sends e = rw (entries_put bs place e claimed_inside) (sends (entries_in bs) places first count place (entries_length bs ∙ sym whole) inside v e)
 
   -- all bytes after it
   pub image_bytes : (e : SentEntry) → with_entry 5 (sent_bytes e) bs place ≡ bytes_sent bs (places - count) (wrapped places (first + count)) e
   image_bytes e =
       let h = claimed_room places first count place v in
-      let t = lt-ltb 0 (places - count) (omega arith) in
-      ap (with_entry 5 (sent_bytes e) bs) (claimed_place places first count place v) ∙ rw t
+      rw (claimed_place places first count place v, lt-ltb 0 (places - count) (omega arith))
 
 module _ (bs : List ℕ) (places first count place : ℕ) (whole : places ≡ length bs / 5) (inside : first ≤ places - 1) (filled : count ≤ places) (v : Some place ≡ cond (ltb 0 count) (Some first) None) where
   -- the released slot is one of the slots
   pub released_inside : place < length bs / 5
-  released_inside =
-      let h = released_some first count place v in
-      let p = released_place first count place v in
-      omega arith
+  released_inside = grind (arith, nat_tests)
 
   -- the entry in it
   pub image_takes : (d : SentEntry) → entry_in bs place ≡ get_or (entries_in bs) place d

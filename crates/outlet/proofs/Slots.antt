@@ -1,17 +1,16 @@
 -- The entries in the slots of bytes: how many, which, and what putting one makes of them.
-use Rattle.std.proofs.Common.{◌≡◌, ℕ, ◌+◌, ◌-◌, ◌*◌, ◌/◌, ◌%◌, ◌<◌, List, [], ◌∷◌, length, get_or, take, drop, set, sym, refl, ap, ◌∙◌, inl, inr, arith, length-append, length-drop, length-set, length-take, get_or-set_other, get_or-set_same}
+use Rattle.std.proofs.Common.{◌≡◌, ℕ, ◌+◌, ◌-◌, ◌*◌, ◌/◌, ◌<◌, List, length, get_or, take, drop, set, refl, inl, inr, arith, length-append, length-drop, length-set, length-take, get_or-set_other, get_or-set_same}
 use borrow.Rule.Slice.PartMut.{put_mid}
 use Rattle.std.proofs.lemmas.List.FromFn.{length-map-range_with_len, get_or-map-range_with_len}
 use Rattle.std.proofs.lemmas.List.{same_lists}
 use Rattle.std.proofs.lemmas.Slice.{between_is, take-put_mid_below, drop-put_mid, between-put_mid}
 use Rattle.std.proofs.lemmas.Bool.{cases_lt}
 use Rattle.formats.specs.declared.entry.SentEntry.{SentEntry}
-use Rattle.formats.specs.Bytes.{bytes_of, spelled}
+use Rattle.formats.specs.Bytes.{spelled}
 use Rattle.formats.specs.Sents.{sent_code, sent_of, sent_bytes}
 use Rattle.formats.proofs.Bytes.{bytes_sized, number_again}
 use Rattle.formats.proofs.Sents.{code_fits, code_again}
 use Rattle.packed.specs.List.{entry_bytes, with_entry}
-use Rattle.packed.proofs.Codes.{eight_bytes, last_bytes}
 use Rattle.packed.proofs.Entries.{written}
 use Rattle.outlet.specs.Bytes.{entry_in, entries_in}
 
@@ -25,7 +24,7 @@ entry_at bs i d h = get_or-map-range_with_len (entry_in bs) 0 (length bs / 5) i 
 
 -- an entry's bytes unpack to it
 entry_again : (e : SentEntry) → sent_of (spelled (sent_bytes e)) ≡ e
-entry_again e = let n = ap sent_of (number_again 5 (sent_code e) (code_fits e)) in let k = code_again e in cc
+entry_again e = rw (number_again 5 (sent_code e) (code_fits e)) (cc (code_again e))
 
 -- five bytes written over those of a slot
 module _ (bs new : List ℕ) (i : ℕ) (inside : i < length bs / 5) (five : length new ≡ 5) where
@@ -36,58 +35,40 @@ module _ (bs new : List ℕ) (i : ℕ) (inside : i < length bs / 5) (five : leng
   slot_put : entry_bytes 5 (with_entry 5 new bs i) i ≡ new
   slot_put =
       let n : i * 5 + 5 - i * 5 ≡ 5 = omega arith in
-      ap (λ l. entry_bytes 5 l i) (sym after)
-      ∙ ap (λ m. take m (drop (i * 5) (put_mid (i * 5) 5 bs new))) (sym n)
-      ∙ between-put_mid (i * 5) 5 bs new (i * 5 + 5) (omega arith) (omega arith)
+      rw (← after) (rw n at (between-put_mid (i * 5) 5 bs new (i * 5 + 5) (omega arith) (omega arith)))
 
   -- and leave the slots before it and behind it
   slot_before : (k : ℕ) → k < i → entry_bytes 5 (with_entry 5 new bs i) k ≡ entry_bytes 5 bs k
   slot_before k h =
       let n : k * 5 + 5 - k * 5 ≡ 5 = omega arith in
-      ap (λ l. entry_bytes 5 l k) (sym after)
-      ∙ ap (λ m. take m (drop (k * 5) (put_mid (i * 5) 5 bs new))) (sym n)
-      ∙ between_is (put_mid (i * 5) 5 bs new) (k * 5) (k * 5 + 5)
-      ∙ ap (drop (k * 5)) (take-put_mid_below (i * 5) 5 bs new (k * 5 + 5) (omega arith) (omega arith))
-      ∙ sym (between_is bs (k * 5) (k * 5 + 5))
-      ∙ ap (λ m. take m (drop (k * 5) bs)) n
+      let front = take-put_mid_below (i * 5) 5 bs new (k * 5 + 5) (omega arith) (omega arith) in
+      let slot : (xs : List ℕ) → entry_bytes 5 xs k ≡ drop (k * 5) (take (k * 5 + 5) xs) = λ xs. rw n at (between_is xs (k * 5) (k * 5 + 5)) in
+      rw (← after, slot (put_mid (i * 5) 5 bs new), front, slot bs)
 
   slot_behind : (k : ℕ) → i < k → entry_bytes 5 (with_entry 5 new bs i) k ≡ entry_bytes 5 bs k
-  slot_behind k h =
-      ap (λ l. entry_bytes 5 l k) (sym after)
-      ∙ ap (take 5) (drop-put_mid (i * 5) 5 bs new (k * 5) (omega arith) (omega arith) five)
+  slot_behind k h = rw (← after, drop-put_mid (i * 5) 5 bs new (k * 5) (omega arith) (omega arith) five)
 
   -- the bytes stay as many
   put_length : length (with_entry 5 new bs i) ≡ length bs
-  put_length = ap length (sym after) ∙ simp (length-append, length-drop, length-take) (omega arith)
+  put_length = rw (← after) (simp (length-append, length-drop, length-take) (omega arith))
 
 -- an entry put into a slot is in it, and all other slots hold what they held
 pub entries_put : (bs : List ℕ) (i : ℕ) (e : SentEntry) → i < length bs / 5 → entries_in (with_entry 5 (sent_bytes e) bs i) ≡ set (entries_in bs) i e
 entries_put bs i e h =
     let five : length (sent_bytes e) ≡ 5 = (bytes_sized 5 (sent_code e)).0 in
     let after : List ℕ = with_entry 5 (sent_bytes e) bs i in
-    let many : length (entries_in after) ≡ length bs / 5 = entries_length after ∙ ap (λ n. n / 5) (put_length bs (sent_bytes e) i h five) in
-    let l : length (entries_in bs) ≡ length bs / 5 = entries_length bs in
+    let many : length (entries_in after) ≡ length bs / 5 = rw (entries_length after, put_length bs (sent_bytes e) i h five) in
     same_lists (entries_in after) (set (entries_in bs) i e)
-    (many ∙ sym l ∙ sym (length-set (entries_in bs) i e))
+    (rw (many, length-set (entries_in bs) i e, entries_length bs))
     (λ k d b.
-    let in-bs : k < length bs / 5 = omega arith in
-    entry_at after k d (omega (arith, entries_length after))
-    ∙ elim (cases_lt k i) [
-      | inl lt ↦
-          ap (λ (s : List ℕ). sent_of (spelled s)) (slot_before bs (sent_bytes e) i h five k lt)
-          ∙ sym (entry_at bs k d in-bs)
-          ∙ sym (get_or-set_other (entries_in bs) i k e d (λ same. omega arith))
+    let inside : k < length bs / 5 = omega arith in
+    let there = entry_at after k d (omega (arith, entries_length after)) in
+    elim (cases_lt k i) [
+      | inl lt ↦ rw (there, get_or-set_other (entries_in bs) i k e d (λ same. omega arith), entry_at bs k d inside, slot_before bs (sent_bytes e) i h five k lt)
       | inr ge ↦ elim (cases_lt i k) [
-        | inl lt ↦
-            ap (λ (s : List ℕ). sent_of (spelled s)) (slot_behind bs (sent_bytes e) i h five k lt)
-            ∙ sym (entry_at bs k d in-bs)
-            ∙ sym (get_or-set_other (entries_in bs) i k e d (λ same. omega arith))
+        | inl lt ↦ rw (there, get_or-set_other (entries_in bs) i k e d (λ same. omega arith), entry_at bs k d inside, slot_behind bs (sent_bytes e) i h five k lt)
         | inr le ↦
             let same : k ≡ i = omega arith in
-            ap (entry_in after) same
-            ∙ ap (λ (s : List ℕ). sent_of (spelled s)) (slot_put bs (sent_bytes e) i h five)
-            ∙ entry_again e
-            ∙ sym (get_or-set_same (entries_in bs) i e d (omega arith))
-            ∙ ap (λ j. get_or (set (entries_in bs) i e) j d) (sym same)
+            rw (there, same, slot_put bs (sent_bytes e) i h five, entry_again e, get_or-set_same (entries_in bs) i e d (omega (arith, entries_length bs)))
       ]
     ])

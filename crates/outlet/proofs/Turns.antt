@@ -1,5 +1,5 @@
 -- What a ring that claims a place, or releases its oldest, makes of the entries that wait in it.
-use Rattle.std.proofs.Common.{◌≡◌, ℕ, ◌+◌, ◌-◌, ◌<◌, ◌≤◌, cond, ltb, List, ◌∷◌, length, get_or, set, Some, None, Ok, sym, ap, ◌∙◌, arith}
+use Rattle.std.proofs.Common.{◌≡◌, ℕ, ◌+◌, ◌-◌, ◌<◌, ◌≤◌, cond, ltb, List, ◌∷◌, length, get_or, set, Some, None, Ok, arith}
 use Rattle.std.proofs.lemmas.Bool.{lt-ltb}
 use Rattle.std.proofs.lemmas.Bool.Decides.{nat_tests}
 use Rattle.formats.specs.declared.entry.SentEntry.{SentEntry}
@@ -16,7 +16,7 @@ module _ (places first count place : ℕ) (v : Some place ≡ cond (ltb count pl
   claimed_place = grind (arith, nat_tests)
 
   pub claimed_answer : Ok tt ≡ send_answer (places - count)
-  claimed_answer = let h = claimed_room in let t = lt-ltb 0 (places - count) (omega arith) in rw t
+  claimed_answer = grind (arith, nat_tests)
 
 -- the oldest place, that was released: there was one
 module _ (first count place : ℕ) (v : Some place ≡ cond (ltb 0 count) (Some first) None) where
@@ -31,19 +31,15 @@ module _ (xs : List SentEntry) (places first count place : ℕ) (long : length x
   pub sends : (e : SentEntry) → ring_of (set xs place e) first (count + 1) ≡ sent (ring_of xs first count) (places - count) e
   sends e =
       let h : count < places = claimed_room places first count place v in
-      let p : place ≡ wrapped (length xs) (first + count) = claimed_place places first count place v ∙ ap (λ n. wrapped n (first + count)) (sym long) in
-      let t = lt-ltb 0 (places - count) (omega arith) in
-      ap (λ i. ring_of (set xs i e) first (count + 1)) p ∙ ring_more xs first count e (omega arith) (omega arith) ∙ rw t
+      let p : place ≡ wrapped (length xs) (first + count) = rw long (claimed_place places first count place v) in
+      rw (p, ring_more xs first count e (omega arith) (omega arith), lt-ltb 0 (places - count) (omega arith))
 
 module _ (xs : List SentEntry) (places first count place : ℕ) (d : SentEntry) (long : length xs ≡ places) (inside : first ≤ places - 1) (filled : count ≤ places) (v : Some place ≡ cond (ltb 0 count) (Some first) None) where
   -- the entry at the released place is the oldest, and those from the next on still wait
   oldest : ring_of xs first count ≡ get_or xs place d ∷ ring_of xs (wrapped places (first + 1)) (count - 1)
   oldest =
       let h : 0 < count = released_some first count place v in
-      let p = released_place first count place v in
-      ring_less xs first count d (omega arith) h (omega arith)
-      ∙ ap (λ i. get_or xs i d ∷ ring_of xs (wrapped (length xs) (first + 1)) (count - 1)) (sym p)
-      ∙ ap (λ n. get_or xs place d ∷ ring_of xs (wrapped n (first + 1)) (count - 1)) long
+      rw (released_place first count place v, ← long) (ring_less xs first count d (omega arith) h (omega arith))
 
   pub takes : Ok (get_or xs place d) ≡ take_answer (ring_of xs first count)
   takes = rw oldest

@@ -1,10 +1,8 @@
-use Rattle.std.proofs.Common.{◌≡◌, ℕ, ◌+◌, ◌<◌, List, sym, refl, ap, ◌∙◌, arith}
+use Rattle.std.proofs.Common.{◌≡◌, ◌+◌, ◌<◌, sym, refl, ap, ◌∙◌, arith}
 use Rattle.std.proofs.lemmas.Bool.{lt-ltb}
 use Rattle.std.specs.Result.{result_ok}
 use Rattle.formats.specs.Sents.{sent_bytes}
 use Rattle.packed.specs.List.{with_entry}
-use Rattle.outlet.specs.Bytes.{entries_in}
-use Rattle.outlet.specs.Ring.{ring_of}
 use Rattle.outlet.proofs.Turns.{claimed_room, claimed_answer}
 use Rattle.outlet.proofs.Images.{image_sends, image_bytes, stands_sent}
 use Rattle.outlet.proofs.bytes.ByteOutletOutlet.send.Goals as goal
@@ -20,17 +18,13 @@ returns c =
     let n : c.claim.new.self.count ≡ r.count + 1 = c.claim.ensures.count ∙ rw t in
     let new = c.put.new.bytes in
     let put : new ≡ with_entry 5 (sent_bytes c.args.entry) bs c.in_ok-place.place = c.put.ensures in
+    let buffer = put ∙ image_bytes bs r.places r.first r.count c.in_ok-place.place o.whole r.inside v c.args.entry in
     record {
       value = claimed_answer r.places r.first r.count c.in_ok-place.place v;
-      after = ap (ring_of (entries_in new) c.claim.new.self.first) n
-          ∙ ap (λ f. ring_of (entries_in new) f (r.count + 1)) c.claim.ensures.first
-          ∙ ap (λ (bytes : List ℕ). ring_of (entries_in bytes) r.first (r.count + 1)) put
-          ∙ image_sends bs r.places r.first r.count c.in_ok-place.place o.whole r.inside v c.args.entry;
+      after = rw (n, c.claim.ensures.first, put) (image_sends bs r.places r.first r.count c.in_ok-place.place o.whole r.inside v c.args.entry);
       left = omega (arith, c.claim.ensures.places);
-      stands = stands_sent c.args.self.now.bytes.ghost_name c.args.self.now.bytes.ghost_name bs new r.places r.first r.count c.claim.new.self.first c.claim.new.self.count o.whole refl c.args.entry
-          (put ∙ image_bytes bs r.places r.first r.count c.in_ok-place.place o.whole r.inside v c.args.entry)
-          c.claim.ensures.first c.claim.ensures.count;
-      buffer = put ∙ image_bytes bs r.places r.first r.count c.in_ok-place.place o.whole r.inside v c.args.entry;
+      stands = stands_sent _ _ bs new r.places r.first r.count c.claim.new.self.first c.claim.new.self.count o.whole refl c.args.entry buffer c.claim.ensures.first c.claim.ensures.count;
+      buffer = buffer;
       holds = refl;
       ring = (c.claim.ensures.places, c.claim.ensures.first, c.claim.ensures.count);
     }

@@ -1,10 +1,10 @@
-use Rattle.std.proofs.Common.{◌≡◌, ◌+◌, ◌-◌, Ok, sym, refl, ap, ◌∙◌}
+use Rattle.std.proofs.Common.{◌≡◌, ◌+◌, sym, refl, ap, ◌∙◌}
 use Rattle.std.proofs.lemmas.Bool.{lt-ltb}
 use Rattle.std.specs.Result.{result_ok}
 use Rattle.formats.specs.declared.entry.SentEntry.{SentEntry}
 use Rattle.formats.specs.Sents.{sent_of}
 use Rattle.outlet.specs.Bytes.{entries_in}
-use Rattle.outlet.specs.Ring.{wrapped, ring_of}
+use Rattle.outlet.specs.Ring.{wrapped}
 use Rattle.outlet.proofs.Images.{image_takes, stands_taken}
 use Rattle.outlet.proofs.Slots.{entries_length}
 use Rattle.outlet.proofs.Turns.{released_some, takes, takes_rest, takes_room}
@@ -24,15 +24,11 @@ returns c =
     let t = lt-ltb 0 r.count (released_some r.first r.count c.in_ok-place.place v) in
     let f : c.release.new.self.first ≡ wrapped r.places (r.first + 1) = c.release.ensures.first ∙ rw t in
     record {
-      value = ap Ok (c.get.ensures ∙ image_takes bs r.places r.first r.count c.in_ok-place.place o.whole r.inside r.filled v none)
-          ∙ takes (entries_in bs) r.places r.first r.count c.in_ok-place.place none long r.inside r.filled v;
-      after = ap (λ i. ring_of (entries_in bs) i c.release.new.self.count) f
-          ∙ ap (ring_of (entries_in bs) (wrapped r.places (r.first + 1))) c.release.ensures.count
-          ∙ takes_rest (entries_in bs) r.places r.first r.count c.in_ok-place.place none long r.inside r.filled v;
-      left = ap (λ n. n - c.release.new.self.count) c.release.ensures.places
-          ∙ ap (λ n. r.places - n) c.release.ensures.count
-          ∙ takes_room (entries_in bs) r.places r.first r.count c.in_ok-place.place none long r.inside r.filled v;
-      stands = stands_taken c.args.self.now.bytes.ghost_name c.args.self.now.bytes.ghost_name bs bs r.places r.first r.count c.release.new.self.first c.release.new.self.count o.whole refl refl c.release.ensures.first c.release.ensures.count;
+      value = rw (c.get.ensures, image_takes bs r.places r.first r.count c.in_ok-place.place o.whole r.inside r.filled v none)
+          (takes (entries_in bs) r.places r.first r.count c.in_ok-place.place none long r.inside r.filled v);
+      after = rw (f, c.release.ensures.count) (takes_rest (entries_in bs) r.places r.first r.count c.in_ok-place.place none long r.inside r.filled v);
+      left = rw (c.release.ensures.places, c.release.ensures.count) (takes_room (entries_in bs) r.places r.first r.count c.in_ok-place.place none long r.inside r.filled v);
+      stands = stands_taken _ _ bs bs r.places r.first r.count c.release.new.self.first c.release.new.self.count o.whole refl refl c.release.ensures.first c.release.ensures.count;
       buffer = refl;
       holds = refl;
       ring = (c.release.ensures.places, c.release.ensures.first, c.release.ensures.count);

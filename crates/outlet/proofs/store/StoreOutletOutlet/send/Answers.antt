@@ -1,7 +1,6 @@
-use Rattle.std.proofs.Common.{◌≡◌, ◌+◌, ◌<◌, set, sym, refl, ap, ◌∙◌, arith}
+use Rattle.std.proofs.Common.{◌≡◌, ◌+◌, ◌<◌, sym, refl, ap, ◌∙◌, arith}
 use Rattle.std.proofs.lemmas.Bool.{lt-ltb}
 use Rattle.std.specs.Result.{result_ok}
-use Rattle.outlet.specs.Ring.{ring_of}
 use Rattle.outlet.proofs.Turns.{claimed_room, claimed_answer, sends}
 use Rattle.outlet.proofs.store.StoreOutletOutlet.send.Goals as goal
 
@@ -15,9 +14,7 @@ returns c =
     let n : c.claim.new.self.count ≡ r.count + 1 = c.claim.ensures.count ∙ rw t in
     record {
       value = claimed_answer r.places r.first r.count c.in_ok-place.place v;
-      after = ap (ring_of (set o.entries c.in_ok-place.place c.args.entry) c.claim.new.self.first) n
-          ∙ ap (λ f. ring_of (set o.entries c.in_ok-place.place c.args.entry) f (r.count + 1)) c.claim.ensures.first
-          ∙ sends o.entries r.places r.first r.count c.in_ok-place.place (o.long ∙ sym o.whole) r.inside v c.args.entry;
+      after = rw (n, c.claim.ensures.first) (sends o.entries r.places r.first r.count c.in_ok-place.place (o.long ∙ sym o.whole) r.inside v c.args.entry);
       left = omega (arith, c.claim.ensures.places);
       stands = refl;
     }

@@ -1,7 +1,7 @@
-use Rattle.std.proofs.Common.{◌≡◌, ◌+◌, ◌-◌, sym, refl, ap, ◌∙◌}
+use Rattle.std.proofs.Common.{◌≡◌, ◌+◌, sym, refl, ap, ◌∙◌}
 use Rattle.std.proofs.lemmas.Bool.{lt-ltb}
 use Rattle.std.specs.Result.{result_ok}
-use Rattle.outlet.specs.Ring.{wrapped, ring_of}
+use Rattle.outlet.specs.Ring.{wrapped}
 use Rattle.outlet.proofs.Turns.{released_some, takes, takes_rest, takes_room}
 use Rattle.outlet.proofs.store.StoreOutletOutlet.take.Goals as goal
 
@@ -16,11 +16,7 @@ returns c =
     let d = c.index-self-place.result in
     record {
       value = takes o.entries r.places r.first r.count c.in_ok-place.place d long r.inside r.filled v;
-      after = ap (λ i. ring_of o.entries i c.release.new.self.count) f
-          ∙ ap (ring_of o.entries (wrapped r.places (r.first + 1))) c.release.ensures.count
-          ∙ takes_rest o.entries r.places r.first r.count c.in_ok-place.place d long r.inside r.filled v;
-      left = ap (λ n. n - c.release.new.self.count) c.release.ensures.places
-          ∙ ap (λ n. r.places - n) c.release.ensures.count
-          ∙ takes_room o.entries r.places r.first r.count c.in_ok-place.place d long r.inside r.filled v;
+      after = rw (f, c.release.ensures.count) (takes_rest o.entries r.places r.first r.count c.in_ok-place.place d long r.inside r.filled v);
+      left = rw (c.release.ensures.places, c.release.ensures.count) (takes_room o.entries r.places r.first r.count c.in_ok-place.place d long r.inside r.filled v);
       stands = refl;
     }
