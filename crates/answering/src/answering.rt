@@ -1,7 +1,7 @@
 // What an engine answers to the console's commands, over any memory and any outlet.
 ghost use Rattle.std.specs.Prelude.{◌≡◌, Some, Ok, IfOk, string_bytes};
 ghost use Rattle.bank.specs.Logs.{as_turn};
-ghost use Rattle.answering.specs.Answered.{done_told, word_told, taken_told, turn_told, reply_told, TagsTold, Told, engine_after};
+ghost use Rattle.answering.specs.Answered.{done_told, word_told, turn_told, reply_told, TagsTold, Told, engine_after};
 
 use crate::moves::{repeat, tell_repeated};
 use answers::refusal::{NothingWaits, Refusal};
