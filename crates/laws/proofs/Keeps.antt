@@ -61,7 +61,7 @@ settle_map x [] = refl
 settle_map x (c ∷ cs) = grind (arith, settle_map x cs)
 
 -- the settled cores after a step
-pub settle_change : (e : Engine) (i : ℕ) (o : Outcome) → map settle (change e i o).cores ≡ set (map settle e.cores) i (settle o.core)
+settle_change : (e : Engine) (i : ℕ) (o : Outcome) → map settle (change e i o).cores ≡ set (map settle e.cores) i (settle o.core)
 settle_change e i o = map-set settle (map (struck o.effect) e.cores) i o.core ∙ ap (λ l. set l i (settle o.core)) (settle_map o.effect e.cores)
 
 pub length_after : (x : Effect) (m : List ℕ) → length (memory_after x m) ≡ length m
@@ -81,35 +81,6 @@ pub record Step (e : Engine) (j : Journal) (h : Inv e j) (i : ℕ) (ask : Ask) (
 abbrev pub InvAfter : Engine → Journal → ℕ → Ask → Outcome → Type 0
 InvAfter e j i ask o = Inv (change e i o) (note e (Moved i ask o.answer o.effect) j)
 
--- a step that pays what it owes keeps the invariant, given memory, sent words and the host's hold
-pub kept :
-    (e : Engine) (j : Journal) (h : Inv e j) (i : ℕ) (ask : Ask) (o : Outcome) → i < length e.cores → (p : Step e j h i ask o) →
-    Shared o.token (change e i o) (note e (Moved i ask o.answer o.effect) j) p.machine →
-    HeldIs o.token (change e i o) (note e (Moved i ask o.answer o.effect) j) →
-    InvAfter e j i ask o
-kept e j h i ask o b p shared held = record {
-  now = p.machine;
-  ran = p.ran;
-  settled = p.settled ∙ ap (λ l. set l i (settle o.core)) h.settled ∙ sym (settle_change e i o);
-  size = p.size ∙ sym (length_after o.effect e.memory);
-  good = λ k. elim (cases_eq k i) [
-    | inl q ↦ rw (q, core_own e i o b) p.good
-    | inr q ↦ rw (core_other e i k o q) (others k q).0
-  ];
-  booked = λ k. elim (cases_eq k i) [
-    | inl q ↦ rw (q, core_own e i o b, eq-eqb i i refl) p.booked
-    | inr q ↦ rw (core_other e i k o q, ne_eqb k i q) (others k q).1
-  ];
-  shared = shared;
-  held = held;
-}
-  where
-    others :
-        (k : ℕ) → k ≢ i →
-        Good (struck o.effect (core_at e k)).state e.program (memory_after o.effect e.memory) o.token k (struck o.effect (core_at e k))
-        × Booked (struck o.effect (core_at e k)).state (other_book o.effect (books j.moves k)) (struck o.effect (core_at e k))
-    others k q = other o.effect e.program e.memory e.token o.token i k (core_at e k) (books j.moves k) q p.quiet (h.good k) (h.booked k)
-
 -- with the token free, or its own, a core disturbs nobody
 pub free_quiet : (x : Effect) (t t' : Token) (i : ℕ) → t ≡ Free → Quiet x t t' i
 free_quiet x t t' i f = grind arith
@@ -124,16 +95,43 @@ Own (CoreHas k) e j i o now =
     (k ≡ i) × ((s : List SentEntry) × Holding e.program now (memory_after o.effect e.memory) s o.core × SentIs (change e i o) j s)
 Own Host e j i o now = ⊥
 
--- a step of a core that had the token, or found it free
-pub kept_own :
-    (e : Engine) (j : Journal) (h : Inv e j) (i : ℕ) (ask : Ask) (o : Outcome) → i < length e.cores → (p : Step e j h i ask o) →
-    Own o.token e j i o p.machine → InvAfter e j i ask o
-kept_own e j h i ask o b p w = kept e j h i ask o b p (grind (arith, core_own e i o b)) (grind arith)
+-- a step that pays what it owes keeps the invariant
+module _ (e : Engine) (j : Journal) (h : Inv e j) (i : ℕ) (ask : Ask) (o : Outcome) (b : i < length e.cores) (p : Step e j h i ask o) where
+  others :
+      (k : ℕ) → k ≢ i →
+      Good (struck o.effect (core_at e k)).state e.program (memory_after o.effect e.memory) o.token k (struck o.effect (core_at e k))
+      × Booked (struck o.effect (core_at e k)).state (other_book o.effect (books j.moves k)) (struck o.effect (core_at e k))
+  others k q = other o.effect e.program e.memory e.token o.token i k (core_at e k) (books j.moves k) q p.quiet (h.good k) (h.booked k)
 
--- a step of a core that has not the token, and writes and sends nothing
-pub kept_aside :
-    (e : Engine) (j : Journal) (h : Inv e j) (i : ℕ) (ask : Ask) (o : Outcome) → i < length e.cores → (p : Step e j h i ask o) →
-    o.effect ≡ Nothing → o.token ≡ e.token → (Holder (core_at e i).state e.program e.memory (core_at e i) → ⊥) →
-    p.machine.memory ≡ h.now.memory → p.machine.sent ≡ h.now.sent →
-    InvAfter e j i ask o
-kept_aside e j h i ask o b p x t not_i m s = kept e j h i ask o b p (grind (arith, core_other)) (grind arith)
+  -- given memory, sent words and the host's hold
+  kept :
+      Shared o.token (change e i o) (note e (Moved i ask o.answer o.effect) j) p.machine →
+      HeldIs o.token (change e i o) (note e (Moved i ask o.answer o.effect) j) →
+      InvAfter e j i ask o
+  kept shared held = record {
+    now = p.machine;
+    ran = p.ran;
+    settled = p.settled ∙ ap (λ l. set l i (settle o.core)) h.settled ∙ sym (settle_change e i o);
+    size = p.size ∙ sym (length_after o.effect e.memory);
+    good = λ k. elim (cases_eq k i) [
+      | inl q ↦ rw (q, core_own e i o b) p.good
+      | inr q ↦ rw (core_other e i k o q) (others k q).0
+    ];
+    booked = λ k. elim (cases_eq k i) [
+      | inl q ↦ rw (q, core_own e i o b, eq-eqb i i refl) p.booked
+      | inr q ↦ rw (core_other e i k o q, ne_eqb k i q) (others k q).1
+    ];
+    shared = shared;
+    held = held;
+  }
+
+  -- of a core that had the token, or found it free
+  pub kept_own : Own o.token e j i o p.machine → InvAfter e j i ask o
+  kept_own w = kept (grind (arith, core_own e i o b)) (grind arith)
+
+  -- of a core that has not the token, and writes and sends nothing
+  pub kept_aside :
+      o.effect ≡ Nothing → o.token ≡ e.token → (Holder (core_at e i).state e.program e.memory (core_at e i) → ⊥) →
+      p.machine.memory ≡ h.now.memory → p.machine.sent ≡ h.now.sent →
+      InvAfter e j i ask o
+  kept_aside x t not_i m s = kept (grind (arith, core_other)) (grind arith)

@@ -27,29 +27,28 @@ use Rattle.laws.proofs.Leaves.{NoHolder, UnitIs, only_core, finish_aside, finish
 pub when_free : (e : Engine) (j : Journal) (h : Inv e j) → e.token ≡ Free → Shared Free e j h.now
 when_free e j h f = rw f at h.shared
 
--- a core that waits unless the token is free
-pub once_free :
-    (e : Engine) (j : Journal) (h : Inv e j) (i : ℕ) → i < length e.cores → (ask : Ask) (x : Outcome) → NoHolder e i →
-    (e.token ≡ Free → InvAfter e j i ask x) → InvAfter e j i ask (if_free e.token x (becomes (view_of e i) (core_at e i) Waiting))
-once_free e j h i b ask x not_i p = by_token e.token refl
-  where
-    by_token : (t : Token) → e.token ≡ t → InvAfter e j i ask (if_free t x (becomes (view_of e i) (core_at e i) Waiting))
-    by_token Free f = p f
-    by_token _ f = only_core e j h i b ask (core_at e i) Waiting not_i refl (h.good i) (h.booked i)
-
--- STOPPED
-pub stopped : (e : Engine) (j : Journal) (h : Inv e j) (i : ℕ) → i < length e.cores → (ask : Ask) → (core_at e i).state ≡ Stopped → InvAfter e j i ask (step_by_state Stopped (view_of e i) (core_at e i))
-stopped e j h i b ask st =
-    only_core e j h i b ask (core_at e i) SaysStopped (λ w. rw st at w) refl (h.good i) (h.booked i)
-
--- ABORT
-pub aborted : (e : Engine) (j : Journal) (h : Inv e j) (i : ℕ) → i < length e.cores → (ask : Ask) → (core_at e i).state ≡ Abort → InvAfter e j i ask (step_by_state Abort (view_of e i) (core_at e i))
-aborted e j h i b ask st =
-    only_core e j h i b ask (rolled_back (core_at e i)) RolledBack (λ w. rw st at w) (rw st refl) tt refl
-
 -- one more entry is sent
 pub one_more_sent : (taken waiting before sent : List SentEntry) (y : SentEntry) → taken ++ waiting ≡ before ++ sent → taken ++ (waiting ++ y ∷ []) ≡ before ++ (sent ++ y ∷ [])
 one_more_sent taken waiting before sent y p = rw (← append_assoc taken waiting (y ∷ []), p) (append_assoc before sent (y ∷ []))
+
+module _ (e : Engine) (j : Journal) (h : Inv e j) (i : ℕ) (b : i < length e.cores) (ask : Ask) where
+  -- a core that waits unless the token is free
+  pub once_free :
+      (x : Outcome) → NoHolder e i → (e.token ≡ Free → InvAfter e j i ask x) →
+      InvAfter e j i ask (if_free e.token x (becomes (view_of e i) (core_at e i) Waiting))
+  once_free x not_i p = by_token e.token refl
+    where
+      by_token : (t : Token) → e.token ≡ t → InvAfter e j i ask (if_free t x (becomes (view_of e i) (core_at e i) Waiting))
+      by_token Free f = p f
+      by_token _ f = only_core e j h i b ask (core_at e i) Waiting not_i refl (h.good i) (h.booked i)
+
+  -- STOPPED
+  pub stopped : (core_at e i).state ≡ Stopped → InvAfter e j i ask (step_by_state Stopped (view_of e i) (core_at e i))
+  stopped st = only_core e j h i b ask (core_at e i) SaysStopped (λ w. rw st at w) refl (h.good i) (h.booked i)
+
+  -- ABORT
+  pub aborted : (core_at e i).state ≡ Abort → InvAfter e j i ask (step_by_state Abort (view_of e i) (core_at e i))
+  aborted st = only_core e j h i b ask (rolled_back (core_at e i)) RolledBack (λ w. rw st at w) (rw st refl) tt refl
 
 module _ (e : Engine) (j : Journal) (h : Inv e j) (i : ℕ) (b : i < length e.cores) (ask : Ask) (st : (core_at e i).state ≡ Bypass) where
   not_i : NoHolder e i

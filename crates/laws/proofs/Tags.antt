@@ -42,7 +42,7 @@ each_once [] a d = refl
 each_once (l ∷ ls) a d = grind (arith, nat_tests, each_once ls a, untagged ls a)
 
 -- copying the tags in the order of the lines is one way
-pub copied : (ls : List Line) (before : List ℕ) → Distinct ls → tag_count ls ≤ length before → TagsCopied ls before (tags ls ++ drop (tag_count ls) before) (tag_count ls)
+copied : (ls : List Line) (before : List ℕ) → Distinct ls → tag_count ls ≤ length before → TagsCopied ls before (tags ls ++ drop (tag_count ls) before) (tag_count ls)
 copied ls before d fits = record {
   counted = refl;
   size = simp (length-append, length-drop, length_tags) (omega arith);
