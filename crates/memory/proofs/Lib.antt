@@ -1,4 +1,2 @@
-pub mod Buffers
 pub mod Fronts
-pub mod Images
 pub mod Quads
