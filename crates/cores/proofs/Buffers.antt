@@ -1,17 +1,15 @@
 -- What a line that was found tells of the lines, and lines that stay at different addresses.
 -- Assumes nothing.
 use Rattle.std.proofs.Common.{◌≡◌, ℕ, zero, suc, ◌+◌, ◌<◌, Bool, true, false, cond, ltb, eqb, ◌&&◌, List, [], ◌∷◌, ◌++◌, length, get_or, set, Some, None, Option, sym, refl, ap, ◌∙◌, subst, inl, inr, arith, lt-ltb, le-ltb, length-set}
-use Rattle.std.specs.List.{position, position_or_len, find, list_any, count_by}
+use Rattle.std.specs.List.{position, position_or_len, find, list_any}
 use Rattle.std.specs.Option.{option_map}
 use Rattle.std.proofs.lemmas.Bool.{cases_Bool, cond-false, ltb-true, ltb-false, or_parts}
-use Rattle.std.proofs.lemmas.List.Recursion.{is_count_by}
 use Rattle.std.proofs.lemmas.Bool.Decides.{nat_tests}
 use Rattle.arrayvec.specs.ArrayVec.{ArrayVec, with_items}
 use Rattle.arrayvec.proofs.ArrayVecLemmas.{items-with_items}
 use Rattle.model.specs.declared.place.Line.{Line}
 use Rattle.model.specs.declared.effect.Effect.TheVariants.{Nothing, Wrote}
 use Rattle.model.specs.Lines.{holds, value_at, tagged, restored, store_at, any_dirty, cleaned, wrote, left, Distinct}
-use Rattle.model.specs.Calls.{tag_count}
 use Rattle.cores.specs.Buffers.{index_of, dirty_index}
 
 -- what stands for a line past the end
@@ -30,12 +28,6 @@ any_dirty_any (l ∷ ls) = rw (any_dirty_any ls)
 pub tagged_any : (ls : List Line) (a : ℕ) → list_any (λ l. eqb l.address a && l.tag) ls ≡ tagged ls a
 tagged_any [] a = refl
 tagged_any (l ∷ ls) a = rw (tagged_any ls a)
-
-pub count_tagged : (ls : List Line) → count_by (λ l. l.tag) ls ≡ tag_count ls
-count_tagged ls = sym (is_count_by tag_count (λ l. l.tag) refl next ls)
-  where
-    next : (l : Line) (ls : List Line) → tag_count (l ∷ ls) ≡ cond l.tag (1 + tag_count ls) (tag_count ls)
-    next l ls = ap (λ n. cond l.tag n (tag_count ls)) (omega arith)
 
 pub value_found : (ls : List Line) (a : ℕ) → option_map (λ l. l.value) (find (λ l. eqb l.address a) ls) ≡ cond (holds ls a) (Some (value_at ls a)) None
 value_found [] a = refl

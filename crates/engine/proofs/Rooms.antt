@@ -44,9 +44,6 @@ bypass_roomy v c (OuterSends e) = free_roomy v.room v.token _ _ (cond_roomy v.ro
 bypass_roomy v c Opens = tt
 bypass_roomy v c Stops = tt
 
-early_roomy : (v : View) (x y : Outcome) → RoomyOutcome v.room x → RoomyOutcome v.room y → RoomyOutcome v.room (if_free v.token x y)
-early_roomy v x y p q = free_roomy v.room v.token x y p q
-
 transaction_roomy : (v : View) (c : Core) (i : Inner) → RoomyOutcome v.room (in_transaction v c i)
 transaction_roomy v c (InnerFaults f) = free_roomy v.room v.token _ _ tt tt
 transaction_roomy v c (InnerMoves p d) = tt
