@@ -48,10 +48,8 @@ impl Log {
     pub fn get(&self, place: usize) -> Result<RecordEntry, RecordRefusal>
         ensures { as_turn result ≡ entry_in self.now place }
     {
-        self.as_slice()
-            .get(place)
-            .copied()
-            .ok_or(RecordRefusal::NotFilled)
+        let entry = self.as_slice().get(place);
+        entry.copied().ok_or(RecordRefusal::NotFilled)
     }
 
     // Empties the record.

@@ -11,5 +11,5 @@ pub returns : goal.returns
 returns c =
     let es = c.as_slice.result.now in
     let place = c.args.place in
-    ap as_turn (c.ok_or.ensures.value ∙ ap (λ o. ok_or o NotFilled) (c.copied.ensures ∙ lent es place c.get.result c.get.ensures.lookup))
+    ap as_turn (c.ok_or.ensures.value ∙ ap (λ o. ok_or o NotFilled) (c.copied.ensures ∙ lent es place c.get-entry.result c.get-entry.ensures.lookup))
     ∙ looked_up es place ∙ ap (λ (ts : List Turn). entry_in ts place) c.as_slice.ensures.value
