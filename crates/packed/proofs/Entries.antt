@@ -1,6 +1,6 @@
 -- Where the bytes of an entry stand, and what it unpacks to.
 -- Assumes nothing.
-use Rattle.std.proofs.Common.{◌≡◌, ℕ, suc, ◌+◌, ◌-◌, ◌*◌, ◌/◌, ◌<◌, ◌≤◌, List, length, take, drop, Ok, Err, Result, mul-le-mul_right, suc-mul, div-mul-le_self, arith, length-drop, length-take-le, drop-drop, lt-ltb}
+use Rattle.std.proofs.Common.{◌≡◌, ℕ, ◌+◌, ◌-◌, ◌*◌, ◌/◌, ◌<◌, ◌≤◌, List, length, take, drop, Ok, Err, Result, arith, length-drop, length-take-le, drop-drop, lt-ltb}
 use Rattle.std.proofs.lemmas.Bool.Decides.{nat_tests}
 use borrow.Rule.Slice.PartMut.{put_mid}
 use Rattle.answers.specs.declared.refusal.Placed.{Placed}
@@ -9,12 +9,6 @@ use Rattle.answers.specs.Refusals.{placed_fault}
 use Rattle.formats.specs.Bytes.{AllBytes, AreBytes, bytes_of, spelled}
 use Rattle.formats.proofs.Bytes.{bytes_again}
 use Rattle.packed.specs.List.{entry_bytes, entry_at, with_entry}
-
--- a whole entry ends inside the bytes
-pub entry_within : (n w i : ℕ) → i < n / w → i * w + w ≤ n
-entry_within n w i h =
-    let a : suc i * w ≤ n / w * w = mul-le-mul_right w h in
-    omega (arith, suc-mul i w, div-mul-le_self n w)
 
 -- what stands at a place inside, from what its bytes unpack to
 module _ {E F : Type 0} (w : ℕ) (unpacked : List ℕ → Result E F) (bytes : List ℕ) (place : ℕ) (inside : place < length bytes / w) where

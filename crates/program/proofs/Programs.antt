@@ -1,9 +1,8 @@
 -- Reading a program, one instruction more.
 -- Assumes nothing.
-use Rattle.std.proofs.Common.{◌≡◌, ℕ, suc, ◌+◌, ◌-◌, ◌/◌, ◌<◌, ◌≤◌, true, false, List, [], ◌∷◌, ◌++◌, length, get_or, take, drop, replicate, set, Ok, Err, Result, sym, refl, ap, ◌∙◌, append_assoc, append-nil, drop-drop, add-one, arith, length-set, length-take-le, get_or-take, take-suc-set}
-use native.Mathlib.Nat.{sub-zero}
+use Rattle.std.proofs.Common.{◌≡◌, ℕ, suc, ◌+◌, ◌-◌, ◌/◌, ◌<◌, ◌≤◌, true, List, [], ◌∷◌, ◌++◌, length, get_or, take, drop, replicate, set, Ok, Err, Result, sym, ap, ◌∙◌, append_assoc, append-nil, drop-drop, add-one, arith, length-set, length-take-le, get_or-take, take-suc-set}
 use Rattle.std.specs.Option.{unwrap_or}
-use Rattle.std.proofs.lemmas.List.{get_or_default, get_or_past, drop-set-lt, length-replicate}
+use Rattle.std.proofs.lemmas.List.{get_or_default, get_or_past, drop-set-lt}
 use Rattle.std.proofs.lemmas.Bool.Decides.{nat_tests}
 use Rattle.answers.specs.declared.refusal.InstructionFault.{InstructionFault}
 use Rattle.answers.specs.declared.refusal.ListRefusal.{ListRefusal}
@@ -12,7 +11,7 @@ use Rattle.formats.specs.declared.instruction.Instruction.{Instruction}
 use Rattle.formats.specs.declared.instruction.Instruction.TheVariants.{Halt}
 use Rattle.formats.specs.Instructions.{bytes_instruction}
 use Rattle.packed.specs.List.{entry_at}
-use Rattle.program.specs.Accepted.{target_inside, targets_inside, ends, last_of, Accepted}
+use Rattle.program.specs.Accepted.{target_inside, targets_inside, last_of, Accepted}
 use Rattle.program.specs.Programs.{instruction_in}
 use Rattle.program.specs.Reading.{good_count, in_program, instruction_at, read_from}
 
@@ -82,13 +81,6 @@ module _ (count : ℕ) (bytes : List ℕ) (is : List Instruction) (place : ℕ) 
       let none : count - place ≡ 0 = omega arith in
       rw (sofar.reads, none, read_none count bytes place (take place is), all)
 
--- nothing is read yet
-pub sofar_none : (count : ℕ) (bytes : List ℕ) → Sofar count bytes (replicate 512 Halt) 0
-sofar_none count bytes = record { long = length-replicate 512 Halt; reads = rw sub-zero (sym (unchanged (read_from count count bytes 0))); targets = refl; blank = refl }
-  where
-    unchanged : (r : Result (List Instruction) ProgramRefusal) → prepended [] r ≡ r
-    unchanged r = grind arith
-
 -- the last of the first count instructions
 pub last_item : (is : List Instruction) (count : ℕ) (x : Instruction) → 0 < count → count ≤ length is → get_or is (count - 1) x ≡ last_of (take count is)
 last_item is count x some h =
@@ -106,12 +98,6 @@ inside_at : (count : ℕ) (is : List Instruction) (k : ℕ) → targets_inside c
 inside_at count (i ∷ is) (suc k) t = grind (arith, inside_at count is k)
 inside_at count _ _ t = grind arith
 
--- what holds of each instruction of an accepted program
-module _ (is : List Instruction) (k : ℕ) (accepted : Accepted is) where
-  -- its jump stays below 512
-  pub jumps_below : target_inside 512 (get_or is k Halt) ≡ true
-  jumps_below = inside_more (length is) 512 accepted.few (get_or is k Halt) (inside_at (length is) is k accepted.targets)
-
-  -- and there is a next place where it goes on
-  pub goes_on : ends (get_or is k Halt) ≡ false → k < 511
-  goes_on on = grind (arith, accepted.few, accepted.last, get_or_past is k Halt)
+-- the jump of an instruction of an accepted program stays below 512
+pub jumps_below : (is : List Instruction) (k : ℕ) → Accepted is → target_inside 512 (get_or is k Halt) ≡ true
+jumps_below is k accepted = inside_more (length is) 512 accepted.few (get_or is k Halt) (inside_at (length is) is k accepted.targets)

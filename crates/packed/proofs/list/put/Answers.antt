@@ -1,9 +1,9 @@
-use Rattle.std.proofs.Common.{◌≡◌, ◌+◌, ◌-◌, ◌/◌, length, take, drop, ◌∙◌, arith, length-drop, length-take-le, lt-ltb}
+use Rattle.std.proofs.Common.{◌≡◌, ◌+◌, ◌-◌, length, take, drop, ◌∙◌, arith, length-drop, length-take-le}
 use Rattle.packed.proofs.Entries.{packed_code, written}
 use Rattle.packed.proofs.list.put.Goals as goal
 
-pub returns : goal.returns
-returns g c =
+pub returns-clause-after : goal.returns-clause-after
+returns-clause-after g c =
     let w = g.E.PackedEntry.width in
     let bytes = c.args.bytes.now in
     let from = c.in-Some.from in
@@ -12,7 +12,4 @@ returns g c =
     let wide : from + c.size.result - from ≡ w = omega (arith, c.size.ensures) in
     let long : length (take (from + c.size.result - from) (drop from bytes)) ≡ w = length-take-le _ (drop from bytes) (omega (arith, at.2, wide, length-drop from bytes)) ∙ wide in
     let out : c.write.new.out ≡ packed = rw (c.write.ensures, c.pack.ensures) (packed_code w _ packed (g.met.E.PackedEntry.sized c.args.entry) long) in
-    record {
-      after = rw (out, wide) (written w packed bytes c.args.place from at.0 at.1);
-      answer = rw (lt-ltb c.args.place (length bytes / w) at.0);
-    }
+    rw (out, wide) (written w packed bytes c.args.place from at.0 at.1)

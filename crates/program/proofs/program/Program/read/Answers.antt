@@ -4,12 +4,9 @@ use Rattle.std.proofs.lemmas.Result.{err_from_is_err_and}
 use Rattle.formats.specs.declared.instruction.Instruction.TheVariants.{Halt}
 use Rattle.program.specs.Accepted.{ends, last_of}
 use Rattle.program.specs.Reading.{read_from}
-use Rattle.program.proofs.Programs.{sofar_none, sofar_more, sofar_stop, sofar_all, last_item, count_good}
+use Rattle.program.proofs.Programs.{sofar_more, sofar_stop, sofar_all, last_item, count_good}
 use Rattle.program.proofs.program.Program.read.Goals as goal
 use Rattle.program.proofs.program.Program.read.Goals.{After-may_end}
-
-pub loop-place-init : goal.loop-place-init
-loop-place-init c = sofar_none (length c.args.bytes.now / 4) c.args.bytes.now
 
 pub loop-place-preserved : goal.loop-place-preserved
 loop-place-preserved c =
