@@ -1,12 +1,11 @@
 -- What an instruction comes to outside and inside a block, in the code's own form.
---   inside              an access, or the fault where its address is outside;  LoadsWithin  a word to be loaded is there
+--   outside             an access names an address that the memory does not have;  LoadsWithin  a word to be loaded is there
 --   outer_of, inner_of  the model's, at a place
 --   OnwardOuter         where it leads stays inside a program of 512 instructions
 --   OnwardInner         the same, and the block has not performed 4,096 instructions yet
 -- Assumes nothing.
-use Rattle.std.specs.Prelude.{ℕ, ◌<◌, ◌≤◌, cond, Ok, Err, Result, nat_lt}
+use Rattle.std.specs.Prelude.{ℕ, ◌<◌, ◌≤◌, Bool, false, Ok, Err, Result, nat_le}
 use Rattle.answers.specs.declared.answer.Fault.{Fault}
-use Rattle.answers.specs.declared.answer.Fault.TheVariants.{AddressOutside}
 use Rattle.model.specs.declared.place.Place.{Place}
 use Rattle.model.specs.Instructions.{put_reg}
 use Rattle.model.specs.Instructions.{Outer as ModelOuter, OuterFaults, OuterMoves, OuterLoads, OuterStores, OuterSends, Opens as OuterOpens, Stops as OuterStops}
@@ -18,11 +17,11 @@ use Rattle.cores.specs.declared.decide.Outer.TheVariants.{Moves, Accesses, Opens
 use Rattle.cores.specs.declared.decide.Inner.{Inner}
 use Rattle.cores.specs.declared.decide.Inner.TheVariants.{Moves as BlockMoves, Accesses as InBlock, Closes, Restarts, TakesToken}
 
--- an access, where a memory of so many words has the address that it names
-abbrev pub inside : (words : ℕ) → Access → Result Access Fault
-inside words (Load a d) = cond (nat_lt a words) (Ok (Load a d)) (Err AddressOutside)
-inside words (Store a w) = cond (nat_lt a words) (Ok (Store a w)) (Err AddressOutside)
-inside words (Send e) = Ok (Send e)
+-- whether an access names an address that a memory of so many words does not have
+abbrev pub outside : (words : ℕ) → Access → Bool
+outside words (Load a d) = nat_le words a
+outside words (Store a w) = nat_le words a
+outside words (Send e) = false
 
 -- a word to be loaded is there
 abbrev pub LoadsWithin : (words : ℕ) → Access → Type 0

@@ -3,7 +3,7 @@ ghost use Rattle.std.specs.Prelude.{◌≡◌, ◌<◌, if◌then◌else◌, nat
 ghost use Rattle.answers.specs.declared.answer.Fault.TheVariants.{TooLong};
 ghost use Rattle.model.specs.Instructions.{outer, inner, closing, InnerFaults};
 ghost use Rattle.cores.specs.Asks.{ask_of, Onward};
-ghost use Rattle.cores.specs.Decisions.{inside, outer_of, OnwardOuter, inner_of, OnwardInner};
+ghost use Rattle.cores.specs.Decisions.{outside, outer_of, OnwardOuter, inner_of, OnwardInner};
 
 use crate::ask::{Access, Ask, next};
 use answers::answer::Fault;
@@ -34,15 +34,13 @@ pub enum Inner {
     TakesToken,
 }
 
-// The access, where a memory of so many words has the address that it names.
-fn inside(access: Access, words: usize) -> Result<Access, Fault>
-    ensures { result ≡ inside words access }
+// Whether an access names an address that a memory of so many words does not have.
+fn outside(access: Access, words: usize) -> bool
+    ensures { result ≡ outside words access }
 {
     match access {
-        Access::Load { address, .. } | Access::Store { address, .. } if address >= words => {
-            Err(Fault::AddressOutside)
-        }
-        _ => Ok(access),
+        Access::Load { address, .. } | Access::Store { address, .. } => address >= words,
+        Access::Send(_) => false,
     }
 }
 
@@ -54,9 +52,10 @@ impl Outer {
         ensures onward { OnwardOuter place words result }
     {
         match ask {
+            Ask::Accesses(access) if outside(access, words) => Err(Fault::AddressOutside),
             Ask::Ends | Ask::Retries | Ask::Earlies => Err(Fault::NoOpenBlock),
             Ask::Moves(place) => Ok(Outer::Moves(place)),
-            Ask::Accesses(access) => Ok(Outer::Accesses(inside(access, words)?)),
+            Ask::Accesses(access) => Ok(Outer::Accesses(access)),
             Ask::Begins => Ok(Outer::Opens),
             Ask::Halts => Ok(Outer::Stops),
         }
@@ -77,14 +76,13 @@ impl Inner {
         ensures value { inner_of place result ≡ (if nat_lt count 4096 then inner words place depth (ask_of place ask) else InnerFaults TooLong) }
         ensures onward { OnwardInner place count words result }
     {
-        if count >= 4096 {
-            return Err(Fault::TooLong);
-        }
         match ask {
+            _ if count >= 4096 => Err(Fault::TooLong),
+            Ask::Accesses(access) if outside(access, words) => Err(Fault::AddressOutside),
             Ask::Begins if depth >= 255 => Err(Fault::TooDeep),
             Ask::Halts => Err(Fault::HaltInBlock),
             Ask::Moves(place) => Ok(Inner::Moves { place, depth }),
-            Ask::Accesses(access) => Ok(Inner::Accesses(inside(access, words)?)),
+            Ask::Accesses(access) => Ok(Inner::Accesses(access)),
             Ask::Begins => Ok(Inner::Moves {
                 place: next(place),
                 depth: depth + 1,
