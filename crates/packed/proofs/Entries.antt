@@ -23,10 +23,10 @@ pub written : (w : ℕ) (packed bytes : List ℕ) (place a : ℕ) → place < le
 written w packed bytes place a inside is = rw (lt-ltb place (length bytes / w) inside, is, drop-drop w (place * w) bytes)
 
 -- what the number that an entry's bytes spell unpacks to
-pub unpacked_code : {R : Type 0} (w : ℕ) (unpacked : List ℕ → R) (bytes : List ℕ) (place from size code : ℕ) → from ≡ place * w → size ≡ w → from + w ≤ length bytes → code ≡ spelled (take (from + size - from) (drop from bytes)) → AllBytes (take (from + size - from) (drop from bytes)) → unpacked (bytes_of w code) ≡ unpacked (entry_bytes w bytes place)
-unpacked_code w unpacked bytes place from size code start long within is all =
-    let wide : from + size - from ≡ w = omega arith in
-    let slice : take (from + size - from) (drop from bytes) ≡ entry_bytes w bytes place = rw (wide, start) in
+pub unpacked_code : {R : Type 0} (w : ℕ) (unpacked : List ℕ → R) (bytes : List ℕ) (place from to code : ℕ) → from ≡ place * w → to ≡ from + w → to ≤ length bytes → code ≡ spelled (take (to - from) (drop from bytes)) → AllBytes (take (to - from) (drop from bytes)) → unpacked (bytes_of w code) ≡ unpacked (entry_bytes w bytes place)
+unpacked_code w unpacked bytes place from to code start long within is all =
+    let wide : to - from ≡ w = omega (arith, long) in
+    let slice : take (to - from) (drop from bytes) ≡ entry_bytes w bytes place = rw (wide, start) in
     let sized : length (entry_bytes w bytes place) ≡ w = length-take-le w (drop (place * w) bytes) (omega (arith, length-drop (place * w) bytes)) in
     rw (is, slice, bytes_again w (entry_bytes w bytes place) (sized, rw slice at all))
 

@@ -5,6 +5,7 @@ ghost use Rattle.packed.specs.List.{entry_count, entry_at, with_entry, put_answe
 use crate::code::{spell, write};
 use answers::refusal::{ListRefusal, OutsideList, at_place};
 use codecs::packed::PackedEntry;
+use std::ops::Range;
 
 // How many whole entries the bytes hold. Bytes past the last whole entry are spare.
 pub fn count<E: PackedEntry>(bytes: &[u8]) -> usize
@@ -13,13 +14,14 @@ pub fn count<E: PackedEntry>(bytes: &[u8]) -> usize
     bytes.len() / E::size()
 }
 
-// Where the bytes of the entry at a place begin, or None where the place is outside.
-fn start<E: PackedEntry>(len: usize, place: usize) -> Option<usize>
-    ensures { MatchOption result (len / E.width ≤ place) (λ from. (place < len / E.width) × (from ≡ place * E.width) × (from + E.width ≤ len)) }
+// Where the bytes of the entry at a place stand, or None where the place is outside.
+fn span<E: PackedEntry>(len: usize, place: usize) -> Option<Range<usize>>
+    ensures { MatchOption result (len / E.width ≤ place) (λ span. (place < len / E.width) × (span.start ≡ place * E.width) × (span.end ≡ span.start + E.width) × (span.end ≤ len)) }
 {
     let size = E::size();
     if place < len / size {
-        Some(place * size)
+        let from = place * size;
+        Some(from..from + size)
     } else {
         None
     }
@@ -29,13 +31,11 @@ fn start<E: PackedEntry>(len: usize, place: usize) -> Option<usize>
 pub fn get<E: PackedEntry>(bytes: &[u8], place: usize) -> Result<E, ListRefusal<E::Fault>>
     ensures { result ≡ entry_at E.width E.unpacked bytes.now place }
 {
-    let Some(from) = start::<E>(bytes.len(), place) else {
+    let Some(span) = span::<E>(bytes.len(), place) else {
         return Err(ListRefusal::Outside);
     };
-    let to = from + E::size();
-    let code = spell(&bytes[from..to]);
-    let entry = at_place(E::unpack(code), place)?;
-    Ok(entry)
+    let code = spell(&bytes[span]);
+    Ok(at_place(E::unpack(code), place)?)
 }
 
 // Puts an entry at a place. Every other byte stays, and all do where the place is outside.
@@ -47,10 +47,9 @@ pub fn put<E: PackedEntry + Drop>(
     ensures after { bytes.new ≡ with_entry E.width (E.packed entry) bytes.old place }
     ensures answer { result ≡ put_answer E.width bytes.old place }
 {
-    let Some(from) = start::<E>(bytes.len(), place) else {
+    let Some(span) = span::<E>(bytes.len(), place) else {
         return Err(OutsideList);
     };
-    let to = from + E::size();
-    write(&mut bytes[from..to], entry.pack());
+    write(&mut bytes[span], entry.pack());
     Ok(())
 }

@@ -11,16 +11,17 @@ use Rattle.packed.proofs.list.get.Goals.{After-at_place}
 told : (g : given.Over) (c : After-at_place g) → c.at_place.result ≡ placed_fault c.args.place (g.E.PackedEntry.unpacked (entry_bytes g.E.PackedEntry.width c.args.bytes.now c.args.place))
 told g c =
     let at = c.in-Some.ensures in
-    rw (c.at_place.ensures, c.unpack.ensures, unpacked_code g.E.PackedEntry.width g.E.PackedEntry.unpacked c.args.bytes.now c.args.place c.in-Some.from c.size.result c.spell-code.result at.1 c.size.ensures at.2 c.spell-code.ensures.value c.spell-code.ensures.bytes)
+    let span = c.in-Some.span in
+    rw (c.at_place.ensures, c.unpack.ensures, unpacked_code g.E.PackedEntry.width g.E.PackedEntry.unpacked c.args.bytes.now c.args.place span.start span.end c.spell-code.result at.1 at.2 at.3 c.spell-code.ensures.value c.spell-code.ensures.bytes)
 
-pub returns-in_err-entry : goal.returns-in_err-entry
-returns-in_err-entry g c =
+pub returns-in_err-at_place : goal.returns-in_err-at_place
+returns-in_err-at_place g c =
     let p = err_from_is_err_and c.from_residual.result c.from_residual.ensures.1 in
-    let t = told g (goal.at.returns-in_err-entry g c).After-at_place in
+    let t = told g (goal.at.returns-in_err-at_place g c).After-at_place in
     rw (p.1, p.2)
-    (entry_err g.E.PackedEntry.width g.E.PackedEntry.unpacked c.args.bytes.now c.args.place c.in-Some.ensures.0 c.in_err-entry.field-0.0 (sym t ∙ c.in_err-entry.was))
+    (entry_err g.E.PackedEntry.width g.E.PackedEntry.unpacked c.args.bytes.now c.args.place c.in-Some.ensures.0 c.in_err-at_place.field-0.0 (sym t ∙ c.in_err-at_place.was))
 
 pub returns : goal.returns
 returns g c =
     let t = told g (goal.at.returns g c).After-at_place in
-    entry_ok g.E.PackedEntry.width g.E.PackedEntry.unpacked c.args.bytes.now c.args.place c.in-Some.ensures.0 c.in_ok-entry.entry (sym t ∙ c.in_ok-entry.was)
+    entry_ok g.E.PackedEntry.width g.E.PackedEntry.unpacked c.args.bytes.now c.args.place c.in-Some.ensures.0 c.in_ok-at_place.field-0 (sym t ∙ c.in_ok-at_place.was)
