@@ -87,8 +87,8 @@ last_item is count x some h =
     rw (length-take-le count is h) (get_or_default is (count - 1) x Halt (omega arith) ∙ sym (get_or-take count is (count - 1) Halt (omega arith)))
 
 -- a good byte count gives one to 512 instructions
-pub count_good : (n : ℕ) → good_count n ≡ true → (0 < n / 4) × (n / 4 ≤ 512)
-count_good n good = grind (arith, nat_tests)
+pub count_good : (n count : ℕ) → good_count n ≡ true → count ≡ n / 4 → (0 < count) × (count ≤ 512)
+count_good n count good is = grind (arith, nat_tests)
 
 -- a jump below a count is below a greater one
 inside_more : (count more : ℕ) → count ≤ more → (i : Instruction) → target_inside count i ≡ true → target_inside more i ≡ true

@@ -7,7 +7,7 @@ mod reader;
 
 // One to 512 instructions whose jumps lead to one of them, and whose last is HALT or JUMP. Seen as the list of them.
 // An array with a count: nothing is allocated, and a program is copied into each engine.
-#[derive(Clone, Copy)]
+#[derive(Clone, Copy, PartialEq, Eq, Debug)]
 pub struct Program {
     instructions: [Instruction; 512],
     count: usize,

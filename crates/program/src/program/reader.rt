@@ -6,7 +6,7 @@ ghost use Rattle.program.specs.Reading.{good_count, instruction_at, read_program
 use super::Program;
 use answers::refusal::{InstructionFault, ProgramFault, ProgramRefusal};
 use formats::instruction::Instruction;
-use packed::list::get;
+use packed::list::{count, get};
 
 // Whether the bytes can be a program: a multiple of 4 from 4 to 2,048.
 fn good_count(bytes: usize) -> bool
@@ -60,7 +60,7 @@ impl Program {
                 place: 0,
             });
         }
-        let count = bytes.len() / 4;
+        let count = count::<Instruction>(bytes);
         let mut instructions = [Instruction::Halt; 512];
         // By place, which is what the packed list is asked for.
         for place in 0..count {
