@@ -69,6 +69,7 @@ impl<'a> Outlet for ByteOutlet<'a> {
         ensures ring { Released self.old.ring self.new.ring }
     {
         let place = self.ring.release().ok_or(NothingWaits)?;
+        // Through a borrow of its own: where `self.bytes` itself is handed in, nothing is known of it afterwards.
         let bytes = &mut *self.bytes;
         Ok(get(bytes, place))
     }

@@ -1,8 +1,8 @@
 // Where a ring of places stands: which place is the oldest, and how many are filled from it on.
 ghost use Rattle.std.specs.Prelude.{◌≡◌, ◌-◌, ◌<◌, ◌≤◌};
-ghost use Rattle.outlet.specs.Ring.{wrapped, claim_answer, count_claimed, release_answer, first_released};
+ghost use Rattle.outlet.specs.Ring.{wrapped, claim_answer, release_answer};
 
-#[derive(Clone, Copy)]
+#[derive(Clone, Copy, PartialEq, Eq, Debug)]
 pub(crate) struct Ring {
     places: usize,
     first: usize,
@@ -13,12 +13,12 @@ pub(crate) struct Ring {
 }
 
 impl Ring {
+    ghost use Rattle.outlet.specs.Places.{room_in, Empty, Claimed, Released};
+
     // A ring of so many places, none of them filled.
     pub(crate) fn new(places: usize) -> Ring
         requires { places < 9223372036854775808 }
-        ensures places { result.places ≡ places }
-        ensures first { result.first ≡ 0 }
-        ensures count { result.count ≡ 0 }
+        ensures { Empty places result }
     {
         Ring {
             places,
@@ -29,7 +29,7 @@ impl Ring {
 
     // How many places are free.
     pub(crate) fn room(&self) -> usize
-        ensures { result ≡ self.now.places - self.now.count }
+        ensures { result ≡ room_in self.now }
     {
         self.places - self.count
     }
@@ -37,9 +37,7 @@ impl Ring {
     // Claims the place behind the filled ones, and answers which it is; where none is free, nothing changes.
     pub(crate) fn claim(&mut self) -> Option<usize>
         ensures value { result ≡ claim_answer self.old.places self.old.first self.old.count }
-        ensures places { self.new.places ≡ self.old.places }
-        ensures first { self.new.first ≡ self.old.first }
-        ensures count { self.new.count ≡ count_claimed self.old.places self.old.count }
+        ensures ring { Claimed self.old self.new }
     {
         if self.count < self.places {
             let place = self.wrap(self.first + self.count);
@@ -53,9 +51,7 @@ impl Ring {
     // Releases the oldest filled place, and answers which it is; where none is filled, nothing changes.
     pub(crate) fn release(&mut self) -> Option<usize>
         ensures value { result ≡ release_answer self.old.first self.old.count }
-        ensures places { self.new.places ≡ self.old.places }
-        ensures first { self.new.first ≡ first_released self.old.places self.old.first self.old.count }
-        ensures count { self.new.count ≡ self.old.count - 1 }
+        ensures ring { Released self.old self.new }
     {
         if self.count > 0 {
             let place = self.first;

@@ -9,7 +9,7 @@ use answers::refusal::{NoRoom, NothingWaits};
 use formats::entry::SentEntry;
 
 // How many entries the store has room for.
-const PLACES: usize = 64;
+pub const PLACES: usize = 64;
 
 // A fixed array: the store allocates nothing.
 #[derive(Drop)]

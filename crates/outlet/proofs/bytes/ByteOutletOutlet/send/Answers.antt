@@ -15,16 +15,16 @@ returns c =
     let v = sym (c.ok_or.ensures.ok_part ∙ ap result_ok c.in_ok-place.was) ∙ c.claim.ensures.value in
     let h : r.count < r.places = claimed_room r.places r.first r.count c.in_ok-place.place v in
     let t = lt-ltb r.count r.places h in
-    let n : c.claim.new.self.count ≡ r.count + 1 = c.claim.ensures.count ∙ rw t in
+    let n : c.claim.new.self.count ≡ r.count + 1 = c.claim.ensures.ring.2 ∙ rw t in
     let new = c.put.new.bytes in
     let put : new ≡ with_entry 5 (sent_bytes c.args.entry) bs c.in_ok-place.place = c.put.ensures in
     let buffer = put ∙ image_bytes bs r.places r.first r.count c.in_ok-place.place o.whole r.inside v c.args.entry in
     record {
       value = claimed_answer r.places r.first r.count c.in_ok-place.place v;
-      after = rw (n, c.claim.ensures.first, put) (image_sends bs r.places r.first r.count c.in_ok-place.place o.whole r.inside v c.args.entry);
-      left = omega (arith, c.claim.ensures.places);
-      stands = stands_sent _ _ bs new r.places r.first r.count c.claim.new.self.first c.claim.new.self.count o.whole refl c.args.entry buffer c.claim.ensures.first c.claim.ensures.count;
+      after = rw (n, c.claim.ensures.ring.1, put) (image_sends bs r.places r.first r.count c.in_ok-place.place o.whole r.inside v c.args.entry);
+      left = omega (arith, c.claim.ensures.ring.0);
+      stands = stands_sent _ _ bs new r.places r.first r.count c.claim.new.self.first c.claim.new.self.count o.whole refl c.args.entry buffer c.claim.ensures.ring.1 c.claim.ensures.ring.2;
       buffer = buffer;
       holds = refl;
-      ring = (c.claim.ensures.places, c.claim.ensures.first, c.claim.ensures.count);
+      ring = c.claim.ensures.ring;
     }

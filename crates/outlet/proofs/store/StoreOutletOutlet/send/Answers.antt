@@ -11,10 +11,10 @@ returns c =
     let v = sym (c.ok_or.ensures.ok_part ∙ ap result_ok c.in_ok-place.was) ∙ c.claim.ensures.value in
     let h : r.count < r.places = claimed_room r.places r.first r.count c.in_ok-place.place v in
     let t = lt-ltb r.count r.places h in
-    let n : c.claim.new.self.count ≡ r.count + 1 = c.claim.ensures.count ∙ rw t in
+    let n : c.claim.new.self.count ≡ r.count + 1 = c.claim.ensures.ring.2 ∙ rw t in
     record {
       value = claimed_answer r.places r.first r.count c.in_ok-place.place v;
-      after = rw (n, c.claim.ensures.first) (sends o.entries r.places r.first r.count c.in_ok-place.place (o.long ∙ sym o.whole) r.inside v c.args.entry);
-      left = omega (arith, c.claim.ensures.places);
+      after = rw (n, c.claim.ensures.ring.1) (sends o.entries r.places r.first r.count c.in_ok-place.place (o.long ∙ sym o.whole) r.inside v c.args.entry);
+      left = omega (arith, c.claim.ensures.ring.0);
       stands = refl;
     }
