@@ -3,8 +3,7 @@ ghost use Rattle.std.specs.Prelude.{◌≡◌, replicate, IfOk};
 ghost use Rattle.buffers.specs.Buffers.{memory_said, outlet_said, words as said_words, words_in, room_in};
 
 use memory::shared::MOST_WORDS;
-use outlet::store::StoreOutlet;
-use outlet::waiting::Outlet;
+use outlet::store::PLACES;
 use std::alloc::{AllocError, Global};
 
 // A buffer for a shared memory.
@@ -46,7 +45,7 @@ impl OutletBuffer {
         ensures { result ≡ room_in (outlet_said self.now) }
     {
         match self {
-            OutletBuffer::Store => StoreOutlet::new().room(),
+            OutletBuffer::Store => PLACES,
             OutletBuffer::Bytes(bytes) => bytes.len() / 5,
         }
     }

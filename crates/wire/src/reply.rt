@@ -18,6 +18,18 @@ struct Part {
     word: u32,
 }
 
+impl Part {
+    // Of a word, no more than the word.
+    fn word(word: u32) -> Part
+        ensures { result ≡ word_part word }
+    {
+        Part {
+            word,
+            ..Part::default()
+        }
+    }
+}
+
 impl From<Answer> for Part {
     ghost from_gives = { λ a p. p ≡ part_of a };
 
@@ -37,22 +49,12 @@ impl From<Answer> for Part {
     }
 }
 
-impl From<u32> for Part {
-    ghost from_gives = { λ w p. p ≡ word_part w };
-
-    fn from(value: u32) -> Part {
-        Part {
-            word: value,
-            ..Part::default()
-        }
-    }
-}
-
 impl From<SentEntry> for Part {
     ghost from_gives = { λ e p. p ≡ sent_part e };
 
     fn from(value: SentEntry) -> Part {
         Part {
+            // The channel, which stands in the place of an answer.
             answer: value.channel.value() as u8,
             word: value.word,
             ..Part::default()
@@ -87,7 +89,7 @@ pub fn reply_bytes(reply: Reply) -> [u8; 8]
         Reply::Stepped(res) => entry(Kind::Step, res.map(Part::from)),
         Reply::Cleared(res) => entry(Kind::Clear, res.map(|()| Part::default())),
         Reply::Held(res) => entry(Kind::Hold, res.map(|()| Part::default())),
-        Reply::Word(res) => entry(Kind::Read, res.map(Part::from)),
+        Reply::Word(res) => entry(Kind::Read, res.map(Part::word)),
         Reply::GivenBack(res) => entry(Kind::GiveBack, res.map(|()| Part::default())),
         Reply::Taken(res) => entry(Kind::Take, res.map(Part::from)),
     }
