@@ -23,13 +23,9 @@ impl Core {
     {
         match inner {
             Err(fault) => self.faulted(scene, Mark::Kept, self.count, fault),
-            Ok(Inner::Moves { place, depth }) => {
-                self.perform(place, depth);
-                self.becomes(scene, Answer::Running)
-            }
+            Ok(Inner::Moves { place, depth }) => self.runs(scene, place, depth),
             Ok(Inner::Accesses(Access::Load { address: _, d })) => {
-                self.perform(put(self.place, d, scene.word), self.depth);
-                self.becomes(scene, Answer::Running)
+                self.runs(scene, put(self.place, d, scene.word), self.depth)
             }
             Ok(Inner::Accesses(Access::Store { address, word })) => {
                 self.perform(next(self.place), self.depth);
@@ -47,10 +43,7 @@ impl Core {
             Ok(Inner::Restarts) => {
                 self.faulted(scene, Mark::Kept, self.count, Fault::RetryAfterEarly)
             }
-            Ok(Inner::TakesToken) => {
-                self.perform(next(self.place), self.depth);
-                self.becomes(scene, Answer::Running)
-            }
+            Ok(Inner::TakesToken) => self.runs(scene, next(self.place), self.depth),
         }
     }
 }

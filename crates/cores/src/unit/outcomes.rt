@@ -1,7 +1,8 @@
 // What a step comes to: only the core changes, it acts, it takes the token, or it finishes a unit.
 ghost use Rattle.std.specs.Prelude.{◌≡◌, ◌<◌, ◌≤◌};
-ghost use Rattle.model.specs.Cores.{freed, becomes, acts, takes_token, finishes, faulted, ends, plain};
-ghost use Rattle.cores.specs.Bounds.{pc_most};
+ghost use Rattle.answers.specs.declared.answer.Answer.TheVariants.{Running};
+ghost use Rattle.model.specs.Cores.{performed, freed, becomes, acts, takes_token, finishes, faulted, ends, plain};
+ghost use Rattle.cores.specs.Bounds.{pc_most, count_most};
 ghost use Rattle.cores.specs.Steps.{scene_of};
 ghost use Rattle.cores.specs.Units.{outcome_of};
 
@@ -45,6 +46,16 @@ impl Core {
         }
     }
 
+    // One more instruction of the block is performed, and only the core changes.
+    pub(super) fn runs(&mut self, scene: Scene, place: Place, depth: u32) -> Outcome
+        requires pc_bound { place.pc ≤ pc_most self.old.state }
+        requires count_bound { self.old.count < count_most self.old.state }
+        ensures { outcome_of self.new result ≡ becomes (scene_of scene) (performed self.old place depth self.old.lines) Running }
+    {
+        self.perform(place, depth);
+        self.becomes(scene, Answer::Running)
+    }
+
     // The core changes to this one, and takes the token.
     pub(super) fn takes_token(&self, scene: Scene, answer: Answer) -> Outcome
         ensures { outcome_of self.now result ≡ takes_token (scene_of scene) self.now answer }
@@ -56,7 +67,7 @@ impl Core {
     }
 
     // The core changes to this one, and finishes a unit.
-    pub(super) fn finishes(
+    fn finishes(
         &self,
         scene: Scene,
         effect: Effect,

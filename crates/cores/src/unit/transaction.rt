@@ -46,8 +46,7 @@ impl Core {
     {
         if self.buffer.len() < scene.capacity {
             self.buffer.push(line);
-            self.perform(place, self.depth);
-            self.becomes(scene, Answer::Running)
+            self.runs(scene, place, self.depth)
         } else {
             self.early(scene)
         }
@@ -61,10 +60,7 @@ impl Core {
         ensures { outcome_of self.new result ≡ loads_line scene self.old address d }
     {
         match self.buffer.value(address) {
-            Some(word) => {
-                self.perform(put(self.place, d, word), self.depth);
-                self.becomes(scene, Answer::Running)
-            }
+            Some(word) => self.runs(scene, put(self.place, d, word), self.depth),
             None => {
                 let line = Line {
                     address,
@@ -86,8 +82,7 @@ impl Core {
         ensures { outcome_of self.new result ≡ stores_line scene self.old address word }
     {
         if self.buffer.store(address, word) {
-            self.perform(next(self.place), self.depth);
-            self.becomes(scene, Answer::Running)
+            self.runs(scene, next(self.place), self.depth)
         } else {
             let line = Line {
                 address,
@@ -125,10 +120,7 @@ impl Core {
                 Answer::Waiting,
             ),
             Err(fault) => self.faulted(scene, Mark::Discarded, self.count, fault),
-            Ok(Inner::Moves { place, depth }) => {
-                self.perform(place, depth);
-                self.becomes(scene, Answer::Running)
-            }
+            Ok(Inner::Moves { place, depth }) => self.runs(scene, place, depth),
             Ok(Inner::Accesses(Access::Load { address, d })) => self.loads(scene, address, d),
             Ok(Inner::Accesses(Access::Store { address, word })) => self.stores(
                 scene, address, word,
