@@ -1,7 +1,14 @@
 -- The tagged addresses of lines.
 -- Assumes nothing.
-use Rattle.std.proofs.Common.{◌≡◌, ℕ, suc, ◌+◌, ◌≤◌, ◌<◌, false, cond, eqb, List, [], ◌∷◌, ◌++◌, length, take, drop, Ok, Err, sym, refl, ap, ◌∙◌, inl, inr, arith, length-append, length-drop, take_all}
-use Rattle.std.proofs.lemmas.List.{take_more, drop_all, take-append-le, drop-append-le}
+use Rattle.std.proofs.Common.{◌≡◌, ℕ, suc, ◌≤◌, ◌<◌, false, cond, eqb, List, [], ◌∷◌, ◌++◌, map, length, take, drop, Ok, Err, Result, Some, Option, sym, refl, ap, ◌∙◌, subst, inl, inr, arith, length-append, length-drop, take_all}
+use Rattle.std.specs.List.{filter}
+use Rattle.std.specs.Result.{OnErr, MatchResult}
+use Rattle.std.specs.Iterator.{Drains, Yields, YieldsThen}
+use Rattle.std.proofs.lemmas.Iterator.{YieldsList}
+use Rattle.std.proofs.lemmas.Iterator.Consumers.{nth_from_yields_List}
+use Rattle.std.proofs.lemmas.Iterator.Adapters.{items_from_extend}
+use Rattle.std.proofs.lemmas.Option.{slice_get_past}
+use Rattle.std.proofs.lemmas.List.{drop_all, take-append-le, drop-append-le}
 use Rattle.std.proofs.lemmas.Bool.{cases_Bool, eqb-true, le-leb, lt-leb}
 use Rattle.model.specs.declared.place.Line.{Line}
 use Rattle.model.specs.Lines.{holds, tagged, tags, Distinct}
@@ -9,21 +16,25 @@ use Rattle.model.specs.declared.refusal.TagsRefusal.TheVariants.{TooShort}
 use Rattle.model.specs.Calls.{tag_count, times}
 use Rattle.cores.specs.Tags.{LineTags}
 use Rattle.model.proofs.Lines.{untagged}
-use Rattle.cores.proofs.Buffers.{no_line, line_at}
 
--- one line more
-tags_push : (ls : List Line) (l : Line) → tags (ls ++ l ∷ []) ≡ cond l.tag (tags ls ++ l.address ∷ []) (tags ls)
-tags_push [] l = refl
-tags_push (k ∷ ls) l =
-    let ih = tags_push ls l in
-    elim (cases_Bool k.tag) [
-      | inl t ↦ elim (cases_Bool l.tag) [ inl u ↦ let e = rw u at ih in rw (t, u) (ap (λ x. k.address ∷ x) e) | inr u ↦ let e = rw u at ih in rw (t, u) (ap (λ x. k.address ∷ x) e) ]
-      | inr t ↦ rw t ih
-    ]
+-- by what each line has
+pub tags_of : (ls : List Line) → map (λ l. l.address) (filter (λ l. l.tag) ls) ≡ tags ls
+tags_of [] = refl
+tags_of (l ∷ ls) =
+    let ih = tags_of ls in
+    elim (cases_Bool l.tag) [ inl t ↦ rw t (ap (λ x. l.address ∷ x) ih) | inr t ↦ rw t ih ]
 
--- the front with the next line
-pub tags_next : (lines : List Line) (i : ℕ) → i < length lines → tags (take (i + 1) lines) ≡ cond (line_at lines i).tag (tags (take i lines) ++ (line_at lines i).address ∷ []) (tags (take i lines))
-tags_next lines i h = ap tags (take_more lines i no_line h) ∙ tags_push (take i lines) (line_at lines i)
+-- all that are given are added to a list of 32 places, where they find room
+pub all_added : {S E : Type 0} {steps : S → Option ℕ → S → Type 0} {s : S} {old items : List ℕ} (all : List ℕ) (r : Result (Unit {0}) E) → old ≡ []
+    → ((it : S) × (xs : List ℕ) × (it ≡ s) × (items ≡ old ++ xs) × MatchResult r (λ _. Drains steps it xs) (λ _. (t : S) × Yields steps it xs t))
+    → OnErr r (length items ≡ 32)
+    → OnErr r ((it : S) × (xs : List ℕ) × (x : ℕ) × (rest : S) × (it ≡ s) × YieldsThen steps it xs (Some x) rest × (items ≡ old ++ xs))
+    → YieldsList steps (λ x. x) s all → length all ≤ 32 → items ≡ all
+all_added {E = E} {old = old} {items = items} all (Ok u) none ran full more given few = items_from_extend {E = E} {P = λ xs. items ≡ old ++ xs} (Ok u) ran given ∙ ap (λ l. l ++ all) none
+all_added {steps = steps} {old = old} all (Err e) none ran full (it, xs, x, rest, is, then, added) given few =
+    let next = nth_from_yields_List (Some x) rest (length xs) (xs, subst (λ i. YieldsThen steps i xs (Some x) rest) is then, refl) given in
+    let past = slice_get_past all (length xs) (omega (arith, full, ap length (added ∙ ap (λ l. l ++ xs) none), few)) in
+    cc
 
 -- how many they are
 tags_counted : (ls : List Line) → length (tags ls) ≡ tag_count ls

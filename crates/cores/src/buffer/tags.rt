@@ -13,12 +13,14 @@ impl Buffer {
         ensures value { result.items ≡ tags self.now }
         ensures apart { Distinct self.now }
     {
+        let tagged = self
+            .lines()
+            .iter()
+            .filter(|line| line.tag)
+            .map(|line| line.address);
+        // All find room: there are at most 32 lines.
         let mut addresses = ArrayVec::new();
-        for line in self.lines() {
-            if line.tag {
-                addresses.push(line.address);
-            }
-        }
+        let _ = addresses.extend(tagged);
         addresses
     }
 
