@@ -5,9 +5,12 @@ use std::marker::Model;
 
 mod access;
 
+// How many entries find room.
+pub const MOST_ENTRIES: usize = 1024;
+
 #[derive(Drop)]
 pub struct Log {
-    entries: ArrayVec<RecordEntry, 1024>,
+    entries: ArrayVec<RecordEntry, MOST_ENTRIES>,
 }
 
 // Seen as the list of its entries.

@@ -5,13 +5,11 @@ ghost use Rattle.model.specs.Calls.{wanted, outcome_of, step, following, turn};
 
 use super::Engine;
 use answers::answer::Answer;
+use bank::log::MOST_ENTRIES;
 use memory::shared::Memory;
 use model::refusal::StepRefusal;
 use model::state::Token;
 use outlet::waiting::Outlet;
-
-// How many entries the record has room for.
-const MOST_ENTRIES: usize = 1024;
 
 // How many free entries of the record a step of a core asks for: two if another core has the token.
 fn wanted(token: Token, i: usize) -> usize
