@@ -38,13 +38,13 @@ impl Settings<'_> {
         ensures answer { result ≡ check self.now words }
         ensures placeable { is_err result ≡ false → placeable self.now.places ≡ true }
     {
-        if self.places.len() < 1 || self.places.len() > 8 {
+        if !(1..=8).contains(&self.places.len()) {
             return Err(CheckRefusal::CoreCount);
         }
-        if self.lines < 1 || self.lines > 32 {
+        if !(1..=32).contains(&self.lines) {
             return Err(CheckRefusal::LineCount);
         }
-        if words < 1 || words > 4096 {
+        if !(1..=4096).contains(&words) {
             return Err(CheckRefusal::MemoryLength);
         }
         if !all_below(self.places, self.program.len()) {
