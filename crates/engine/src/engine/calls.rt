@@ -92,8 +92,7 @@ impl<M: Memory, O: Outlet> Engine<M, O> {
     pub fn token(&self) -> Token
         ensures { result ≡ holder self.now }
     {
-        let holder = self.token;
-        holder
+        self.token
     }
 
     // What people see of a core, or None where there is no such core.
