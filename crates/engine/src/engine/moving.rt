@@ -1,5 +1,5 @@
 // Moving one core: it is lent to its step, and the rest of the engine takes what the step came to.
-ghost use Rattle.std.specs.Prelude.{◌≡◌, ◌<◌, length, slice_index};
+ghost use Rattle.std.specs.Prelude.{◌≡◌, ◌<◌, ◌≤◌, length, slice_index, MatchOption};
 ghost use Rattle.model.specs.Cores.{outcome};
 ghost use Rattle.model.specs.Engine.{core_at};
 ghost use Rattle.cores.specs.Units.{scene_view};
@@ -21,22 +21,21 @@ impl<M: Memory, O: Outlet> Engine<M, O> {
         self.memory.read(address).unwrap_or(0)
     }
 
-    // What a step of a core sees.
-    pub(crate) fn scene(&self, i: usize) -> Scene
-        requires { i < length self.now.cores }
-        ensures { scene_view self.now.program result ≡ scene_of self.now i }
+    // What a step of a core sees, or None where there is no such core.
+    pub(crate) fn scene(&self, i: usize) -> Option<Scene>
+        ensures { MatchOption result (length self.now.cores ≤ i) (λ scene. (i < length self.now.cores) × (scene_view self.now.program scene ≡ scene_of self.now i)) }
     {
-        let core = self.table.get(i).unwrap();
+        let core = self.table.get(i)?;
         let address = core.load_address(&self.program);
         let word = self.word_or_zero(address);
-        Scene {
+        Some(Scene {
             capacity: self.capacity,
             words: self.memory.len(),
             word,
             room: self.outlet.room(),
             token: self.token,
             me: CoreNumber::new(i as u32).unwrap(),
-        }
+        })
     }
 
     // The core moves; the rest of the engine stays as it is.

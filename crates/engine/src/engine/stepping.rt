@@ -1,7 +1,6 @@
 // Step and turn.
-ghost use Rattle.std.specs.Prelude.{◌≡◌, ◌<◌, ◌≤◌, length};
-ghost use Rattle.model.specs.Engine.{change};
-ghost use Rattle.model.specs.Calls.{wanted, outcome_of, step, following, turn};
+ghost use Rattle.std.specs.Prelude.{◌≡◌, ◌≤◌};
+ghost use Rattle.model.specs.Calls.{wanted, step, following, turn};
 
 use super::Engine;
 use answers::answer::Answer;
@@ -30,30 +29,18 @@ fn following(i: usize, count: usize) -> usize
 }
 
 impl<M: Memory, O: Outlet> Engine<M, O> {
-    // A step of a core that is not refused.
-    fn advance(&mut self, i: usize) -> Answer
-        requires { (i < length self.old.cores) × (length self.old.entries < 1024) }
-        ensures after { self.new ≡ change self.old i (outcome_of self.old i) }
-        ensures answer { result ≡ (outcome_of self.old i).answer }
-    {
-        let scene = self.scene(i);
-        let outcome = self.move_core(i, scene);
-        self.apply(i, outcome);
-        outcome.answer
-    }
-
     // Moves one core. Refused where there is no such core, or the record is full.
     pub fn step(&mut self, i: usize) -> Result<Answer, StepRefusal>
         ensures after { self.new ≡ (step self.old i).engine }
         ensures answer { result ≡ (step self.old i).answer }
     {
-        if i >= self.table.len() {
-            return Err(StepRefusal::NoSuchCore);
-        }
+        let scene = self.scene(i).ok_or(StepRefusal::NoSuchCore)?;
         if self.log.len() + wanted(self.token, i) > MOST_ENTRIES {
             return Err(StepRefusal::RecordFull);
         }
-        Ok(self.advance(i))
+        let outcome = self.move_core(i, scene);
+        self.apply(i, outcome);
+        Ok(outcome.answer)
     }
 
     // Moves the core whose turn it is. The next one is next, unless the turn was refused.
