@@ -11,6 +11,10 @@ use Rattle.tokens.specs.declared.number.NumberFault.TheVariants.{NoNumber, TooLa
 abbrev pub throughout : (ℕ → Bool) → List ℕ → Bool
 throughout test bs = prefix_len test bs == length bs
 
+-- a number that 32 bits hold
+abbrev pub fitting : ℕ → Option ℕ
+fitting n = cond (nat_lt n 4294967296) (Some n) None
+
 -- what digits write in a base: they are looked at first, and then how large the number is
 abbrev pub read_digits : ℕ → List ℕ → Result ℕ NumberFault
 read_digits base ds =

@@ -1,6 +1,7 @@
 // Numbers: decimal, or hexadecimal after `0x`.
-ghost use Rattle.std.specs.Prelude.{◌≡◌, ◌≤◌};
-ghost use Rattle.tokens.specs.Numbers.{read_digits, read_number};
+ghost use Rattle.std.specs.Prelude.{◌≡◌, ◌+◌, ◌*◌, ◌≤◌};
+ghost use Rattle.std.specs.Option.{option_and_then};
+ghost use Rattle.tokens.specs.Numbers.{fitting, read_digits, read_number};
 
 // Why a token gives no number.
 #[derive(Clone, Copy, PartialEq, Eq, Debug)]
@@ -11,8 +12,12 @@ pub enum NumberFault {
     TooLarge,
 }
 
-// One more than the largest number.
-const LIMIT: u64 = 4294967296;
+// The number with one digit more behind it, if it is not too large.
+fn with_digit(value: Option<u32>, base: u32, digit: u32) -> Option<u32>
+    ensures { result ≡ option_and_then (λ n. fitting (n * base + digit)) value }
+{
+    value?.checked_mul(base)?.checked_add(digit)
+}
 
 // The number that digits of a base write.
 fn read_digits(digits: &[u8], base: u32) -> Result<u32, NumberFault>
@@ -23,13 +28,13 @@ fn read_digits(digits: &[u8], base: u32) -> Result<u32, NumberFault>
     if digits.is_empty() {
         return Err(NumberFault::NoNumber);
     }
-    // the number so far, or the limit where it is larger
-    let mut value: u64 = 0;
+    // the number so far, if it is not too large
+    let mut value = Some(0u32);
     for b in digits {
         let digit = char::from(*b).to_digit(base).ok_or(NumberFault::NoNumber)?;
-        value = (value * u64::from(base) + u64::from(digit)).min(LIMIT);
+        value = with_digit(value, base, digit);
     }
-    u32::try_from(value).or(Err(NumberFault::TooLarge))
+    value.ok_or(NumberFault::TooLarge)
 }
 
 // The number that a token writes.

@@ -1,11 +1,13 @@
-use Rattle.std.proofs.Common.{◌≡◌, ◌<◌, ◌+◌, ◌*◌, true, false, Err, ◌≤◌, min, get_or, take, sym, ap, ◌∙◌, arith, rules, take_all}
+use Rattle.std.proofs.Common.{◌≡◌, ◌+◌, ◌*◌, ◌<◌, true, false, Err, ◌≤◌, get_or, take, sym, ap, ◌∙◌, arith, rules, take_all}
+use Rattle.std.specs.Option.{ok_or, option_and_then}
 use Rattle.std.specs.Str.Parse.{digits_value}
 use Rattle.std.specs.Char.{digit_value, is_digit}
 use Rattle.std.proofs.lemmas.Int.Digits.{digits_value_more}
 use Rattle.std.proofs.lemmas.Bool.Decides.{nat_tests}
 use Rattle.std.proofs.lemmas.List.Sums.{prefix_len-drop_yes, prefix_len-drop_no, prefix_len-drop_all}
-use Rattle.tokens.specs.declared.number.NumberFault.TheVariants.{NoNumber}
-use Rattle.tokens.proofs.Digits.{capped_more, no_digits, all_digits}
+use Rattle.tokens.specs.declared.number.NumberFault.TheVariants.{NoNumber, TooLarge}
+use Rattle.tokens.specs.Numbers.{fitting}
+use Rattle.tokens.proofs.Digits.{more_fitting, no_digits, all_digits}
 use Rattle.tokens.proofs.number.read_digits.Goals as goal
 
 pub loop-b-preserved : goal.loop-b-preserved
@@ -17,14 +19,13 @@ loop-b-preserved c =
     let within : digit_value (get_or ds i 0) < base = search rules in
     let passes : is_digit (get_or ds i 0) base ≡ true = grind (arith, nat_tests) in
     let stretch = prefix_len-drop_yes (λ b. is_digit b base) ds i 0 c.loop-b-test.true passes in
-    let more = digits_value_more base ds i c.loop-b-test.true in
     record {
       digits = omega (arith, c.loop-b.invariant.digits);
       value =
-          c.min-value.ensures
-          ∙ (λ k. min (c.loop-b.invariant.value k * c.from-in-loop-b.ensures k + (c.from-in-loop-b-2.ensures ∙ is) k) 4294967296)
-          ∙ capped_more base (digits_value base (take i ds)) (digit_value (get_or ds i 0)) 4294967296 (omega arith)
-          ∙ ap (λ n. min n 4294967296) (sym more);
+          c.with_digit-value.ensures
+          ∙ (λ k. option_and_then (λ n. fitting (n * base + is k)) (c.loop-b.invariant.value k))
+          ∙ more_fitting base (digits_value base (take i ds)) (digit_value (get_or ds i 0)) (omega arith)
+          ∙ ap fitting (sym (digits_value_more base ds i c.loop-b-test.true));
     }
 
 pub returns-in_err-digit : goal.returns-in_err-digit
@@ -44,5 +45,5 @@ returns c =
     let ds = c.args.digits.now in
     let i = c.loop-b.b-index in
     let none = prefix_len-drop_all (λ b. is_digit b base) ds i c.loop-b-test.false in
-    let value = c.loop-b.invariant.value ∙ ap (λ l. min (digits_value base l) 4294967296) (take_all i ds c.loop-b-test.false) in
-    c.or.ensures ∙ all_digits base ds c.loop-b.value c.try_from.result (search rules) (omega (arith, c.loop-b.invariant.digits)) value c.try_from.ensures
+    let value = c.loop-b.invariant.value ∙ ap (λ l. fitting (digits_value base l)) (take_all i ds c.loop-b-test.false) in
+    c.ok_or-2.ensures.value ∙ ap (λ o. ok_or o TooLarge) value ∙ all_digits base ds (search rules) (omega (arith, c.loop-b.invariant.digits))
