@@ -30,9 +30,9 @@ impl<'a> Image<'a> {
         ensures { result ≡ kind_bytes self.entry.kind }
     {
         match self.kind {
-            Kind::Instruction => <Instruction as PackedEntry>::size(),
-            Kind::Entry => <RecordEntry as PackedEntry>::size(),
-            Kind::Sent => <SentEntry as PackedEntry>::size(),
+            Kind::Instruction => Instruction::BYTES,
+            Kind::Entry => RecordEntry::BYTES,
+            Kind::Sent => SentEntry::BYTES,
         }
     }
 
