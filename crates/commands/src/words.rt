@@ -15,7 +15,7 @@ use tokens::number::read_number;
 // The most steps, turns, bytes or places that one command asks for.
 const MOST_TIMES: u32 = 65_536;
 
-// The word as a text to be compared with names. None where it is no text: names are.
+// The word as a text to be compared with names. None where it is no text; every name is one.
 pub(crate) fn as_name(word: &[u8]) -> Option<&str>
     ensures known { IfSome result (λ text. text.now ≡ word.now) }
     ensures ascii { IsAscii word.now → IsSome result }
@@ -23,7 +23,7 @@ pub(crate) fn as_name(word: &[u8]) -> Option<&str>
     std::str::from_utf8(word).ok()
 }
 
-// It is seen as the words that are left.
+// The words of a line that are left. Seen as their list.
 #[derive(Drop)]
 pub(crate) struct Words<'a> {
     rest: &'a [u8],
