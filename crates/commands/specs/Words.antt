@@ -1,6 +1,6 @@
 -- The words of a line, taken from left to right.
 -- Assumes nothing.
-use Rattle.std.specs.Prelude.{ℕ, zero, suc, cond, List, [], ◌∷◌, length, Some, None, Ok, Err, Option, Result, nat_lt}
+use Rattle.std.specs.Prelude.{◌≡◌, ℕ, zero, suc, cond, List, [], ◌∷◌, length, Some, None, Ok, Err, Option, Result, nat_lt}
 use Rattle.std.specs.Option.{ok_or}
 use Rattle.std.specs.Result.{result_map_both}
 use Rattle.tokens.specs.Lines.{next_token}
@@ -32,6 +32,10 @@ first (word ∷ words) = Some word
 abbrev pub others : List (List ℕ) → List (List ℕ)
 others [] = []
 others (word ∷ words) = words
+
+-- the next word is taken, if there is one
+abbrev pub GivesWord : List (List ℕ) → Option (List ℕ) → List (List ℕ) → Type 0
+GivesWord before word after = (word ≡ first before) × (after ≡ others before)
 
 -- one question after another: the first refusal stays
 abbrev pub and_then : {A B : Type 0} → Result A Reason → (A → Result B Reason) → Result B Reason

@@ -35,22 +35,30 @@ impl<'a> Model for Words<'a> {
     ghost view = { λ words. words_of words.rest.now };
 }
 
+// The words, one after another.
+impl<'a> Iterator for Words<'a> {
+    ghost use Rattle.std.specs.Iterator.{item_count};
+    ghost use Rattle.commands.specs.Words.{GivesWord};
+
+    type Item = &'a [u8];
+
+    ghost next_gives = { λ before word after. GivesWord before (option_map (λ x. x.now) word) after };
+
+    ghost remaining = { item_count (λ words. words) };
+
+    fn next(&mut self) -> Option<&'a [u8]> {
+        let (token, rest) = next_token(self.rest)?;
+        self.rest = rest;
+        Some(token)
+    }
+}
+
 impl<'a> Words<'a> {
     // The words of a line without its remark.
     pub(crate) fn new(text: &'a [u8]) -> Words<'a>
         ensures { result ≡ words_of text.now }
     {
         Words { rest: text }
-    }
-
-    // The next word, if there is one.
-    pub(crate) fn next(&mut self) -> Option<&'a [u8]>
-        ensures value { option_map (λ x. x.now) result ≡ first self.old }
-        ensures after { self.new ≡ others self.old }
-    {
-        let (token, rest) = next_token(self.rest)?;
-        self.rest = rest;
-        Some(token)
     }
 
     // The next word as a text to be compared with names.
