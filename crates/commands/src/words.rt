@@ -118,11 +118,11 @@ impl<'a> Words<'a> {
     }
 
     // All words that are left, as numbers.
-    pub(crate) fn numbers(mut self, heap: Global) -> Result<Vec<u32>, ParseError>
+    pub(crate) fn numbers(self, heap: Global) -> Result<Vec<u32>, ParseError>
         ensures { Reads vec_items result (numbers_of self.entry) }
     {
         let mut numbers = Vec::new(heap);
-        while let Some(word) = self.next() {
+        for word in self {
             numbers.push(read_number(word).map_err(Reason::from)?)?;
         }
         Ok(numbers)

@@ -22,4 +22,4 @@ loop-word-preserved c =
 
 pub returns : goal.returns
 returns c =
-    none_counted _ (vec_items c.loop-word.numbers) c.in_default.ensures.steps.0 ∙ sym c.loop-word.invariant
+    none_counted _ (vec_items c.loop-word.numbers) c.in-None.ensures.steps.0 ∙ sym c.loop-word.invariant
