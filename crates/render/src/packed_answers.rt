@@ -17,7 +17,6 @@ use text::show::Shown;
 // Answers the command: the line's end, and the lines after it. `program` is the accepted program.
 pub fn answer(
     command: PackedCommand,
-    heap: Global,
     program: &mut Option<Program>,
     out: &mut Vec<u8>,
 ) -> Result<(), AllocError>
@@ -26,17 +25,15 @@ pub fn answer(
 {
     match command {
         PackedCommand::Program(bytes) => {
-            let told = tell_program(heap, accept(bytes.as_slice(), program))?;
+            let told = tell_program(*out.allocator(), accept(bytes.as_slice(), program))?;
             write_line(out, told.as_str())
         }
-        PackedCommand::List => list(heap, program, out),
+        PackedCommand::List => list(program, out),
         PackedCommand::One(kind, bytes) => {
-            let told = Image::new(kind, bytes.as_slice()).tell_at(heap, 0)?;
+            let told = Image::new(kind, bytes.as_slice()).tell_at(*out.allocator(), 0)?;
             write_line(out, told.as_str())
         }
-        PackedCommand::Image(kind, bytes) => {
-            show_image(heap, Image::new(kind, bytes.as_slice()), out)
-        }
+        PackedCommand::Image(kind, bytes) => { show_image(Image::new(kind, bytes.as_slice()), out) }
     }
 }
 
@@ -62,53 +59,48 @@ fn tell_program(heap: Global, read: Result<usize, ProgramRefusal>) -> Result<Str
 }
 
 // The accepted program: how many instructions it has, and a line for each.
-fn list(heap: Global, program: &Option<Program>, out: &mut Vec<u8>) -> Result<(), AllocError>
+fn list(program: &Option<Program>, out: &mut Vec<u8>) -> Result<(), AllocError>
     ensures { OnOk result (out.new.items ≡ out.old.items ++ listed program.now) }
 {
     let Some(program) = program else {
         return write_line(out, "no program");
     };
     let instructions = program.as_slice();
-    let head = format!(in heap; "instructions {}", instructions.len())?;
+    let head = format!(in *out.allocator(); "instructions {}", instructions.len())?;
     write_line(out, head.as_str())?;
     for (place, instruction) in instructions.iter().enumerate() {
-        list_one(heap, place, *instruction, out)?;
+        list_one(place, *instruction, out)?;
     }
     Ok(())
 }
 
 // The line of one instruction.
-fn list_one(
-    heap: Global,
-    place: usize,
-    instruction: Instruction,
-    out: &mut Vec<u8>,
-) -> Result<(), AllocError>
+fn list_one(place: usize, instruction: Instruction, out: &mut Vec<u8>) -> Result<(), AllocError>
     ensures { OnOk result (out.new.items ≡ out.old.items ++ instruction_line place instruction) }
 {
-    let line = format!(in heap; "  {place}  {}", Shown(instruction))?;
+    let line = format!(in *out.allocator(); "  {place}  {}", Shown(instruction))?;
     write_line(out, line.as_str())
 }
 
 // How many entries and spare bytes an image has, and a line for each entry.
-fn show_image(heap: Global, image: Image, out: &mut Vec<u8>) -> Result<(), AllocError>
+fn show_image(image: Image, out: &mut Vec<u8>) -> Result<(), AllocError>
     ensures { OnOk result (out.new.items ≡ out.old.items ++ image_lines image.entry.kind image.entry.bytes.now) }
 {
     let entries = image.count();
-    let head = format!(in heap; "entries {entries} spare {}", image.spare())?;
+    let head = format!(in *out.allocator(); "entries {entries} spare {}", image.spare())?;
     write_line(out, head.as_str())?;
     // By place, which is what the packed list is asked for.
     for place in 0..entries {
-        show_one(heap, image, place, out)?;
+        show_one(image, place, out)?;
     }
     Ok(())
 }
 
 // The line of one entry.
-fn show_one(heap: Global, image: Image, place: usize, out: &mut Vec<u8>) -> Result<(), AllocError>
+fn show_one(image: Image, place: usize, out: &mut Vec<u8>) -> Result<(), AllocError>
     ensures { OnOk result (out.new.items ≡ out.old.items ++ entry_line image.entry.kind image.entry.bytes.now place) }
 {
-    let told = image.tell_at(heap, place)?;
-    let line = format!(in heap; "  {place}: {told}")?;
+    let told = image.tell_at(*out.allocator(), place)?;
+    let line = format!(in *out.allocator(); "  {place}: {told}")?;
     write_line(out, line.as_str())
 }

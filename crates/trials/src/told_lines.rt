@@ -13,7 +13,7 @@ fn printed(
     program: &mut Option<Program>,
 ) -> Result<Vec<u8>, AllocError> {
     let mut out = Vec::new(heap);
-    answer(command, heap, program, &mut out)?;
+    answer(command, program, &mut out)?;
     Ok(out)
 }
 
