@@ -1,7 +1,7 @@
 // One scenario, line by line.
 ghost use Rattle.std.specs.Prelude.{◌≡◌, ◌++◌, IfOk, OnOk};
 ghost use Rattle.console.specs.Printed.{without_newline, words_of, tokens_of, echoed, head_text, reason_line, told_line};
-ghost use Rattle.console.specs.Played.{beginning, Appends, Given, Ordered, Answered, Complied, Explained, Played};
+ghost use Rattle.console.specs.Played.{beginning, Appends, Given, Ordered, Answered, Explained, Played};
 
 use buffers::buffers::{MemoryBuffer, OutletBuffer};
 use commands::command::{Command, Settings};
@@ -99,41 +99,20 @@ impl Console {
     }
 
     // Plays a line, with its newline or without, and appends what it prints, but for what is left to do.
-    pub fn play_line(
-        &mut self,
-        heap: Global,
-        line: &[u8],
-        out: &mut Vec<u8>,
-    ) -> Result<Next, AllocError>
+    pub fn play_line(&mut self, line: &[u8], out: &mut Vec<u8>) -> Result<Next, AllocError>
         ensures { IfOk result (λ next. Appends out.old.items out.new.items (λ printed. Played self.old (words_of line.now) printed next self.new)) }
     {
         let text = words_of(line);
-        match Command::parse(heap, text) {
-            Ok(command) => self.comply(heap, text, command, out),
+        match Command::parse(*out.allocator(), text) {
+            Ok(Some(command)) => self.answer(text, command, out),
+            Ok(None) => Ok(Next::Line),
             Err(error) => explain(out, error),
-        }
-    }
-
-    // Answers a command, if there is one.
-    fn comply(
-        &mut self,
-        heap: Global,
-        text: &[u8],
-        command: Option<Command>,
-        out: &mut Vec<u8>,
-    ) -> Result<Next, AllocError>
-        ensures { IfOk result (λ next. Appends out.old.items out.new.items (λ printed. Complied self.old text.now command printed next self.new)) }
-    {
-        match command {
-            None => Ok(Next::Line),
-            Some(command) => self.answer(heap, text, command, out),
         }
     }
 
     // Answers a command, but for what is left to do.
     fn answer(
         &mut self,
-        heap: Global,
         text: &[u8],
         command: Command,
         out: &mut Vec<u8>,
@@ -143,22 +122,22 @@ impl Console {
         match command {
             Command::Packed(command) => {
                 write_head(out, text)?;
-                packed_answers::answer(command, heap, &mut self.program, out)?;
+                packed_answers::answer(command, &mut self.program, out)?;
                 Ok(Next::Line)
             }
             Command::Memory(buffer) => {
-                let told = format!(in heap; "words {}", buffer.words())?;
+                let told = format!(in *out.allocator(); "words {}", buffer.words())?;
                 self.memory = Some(buffer);
                 write_answer(out, text, told.as_str())?;
                 Ok(Next::Line)
             }
             Command::Outlet(buffer) => {
-                let told = format!(in heap; "room {}", buffer.room())?;
+                let told = format!(in *out.allocator(); "room {}", buffer.room())?;
                 self.outlet = Some(buffer);
                 write_answer(out, text, told.as_str())?;
                 Ok(Next::Line)
             }
-            Command::Make(settings) => self.order(heap, text, settings, out),
+            Command::Make(settings) => self.order(text, settings, out),
             Command::Engine(command) => Ok(Next::Engine(command)),
         }
     }
@@ -166,7 +145,6 @@ impl Console {
     // An engine is to be made over the accepted program. That uses up the memory and the outlet.
     fn order(
         &mut self,
-        heap: Global,
         text: &[u8],
         settings: Settings,
         out: &mut Vec<u8>,
@@ -177,7 +155,7 @@ impl Console {
             write_reason(out, Reason::NoProgram)?;
             return Ok(Next::Line);
         };
-        let memory = memory_or_plain(heap, self.memory.take())?;
+        let memory = memory_or_plain(*out.allocator(), self.memory.take())?;
         let outlet = self.outlet.take().unwrap_or(OutletBuffer::Store);
         write_head(out, text)?;
         Ok(Next::Make(Order {
