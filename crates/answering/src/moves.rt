@@ -12,7 +12,7 @@ use render::tell::tell_moved;
 use std::alloc::{AllocError, Global};
 
 // One move. A match and no closure: a text says which core moves.
-pub(crate) fn advance<M: Memory, O: Outlet>(
+fn advance<M: Memory, O: Outlet>(
     desk: &mut Desk<M, O>,
     which: Move,
 ) -> Result<Answer, StepRefusal>

@@ -63,6 +63,7 @@ impl<'a, R: Read + Drop> Scenario<'a, R> {
             end: Ok(()),
         };
         let mut order = scenario.play_without_engine()?;
+        // No `while`: a function has to end, and it is not known that input does.
         for _ in 0..u64::MAX {
             let Some(made) = order else {
                 break;
@@ -101,13 +102,14 @@ impl<'a, R: Read + Drop> Scenario<'a, R> {
         F: FnMut(EngineCommand, &[u8], &mut Vec<u8>) -> io::Result<()>,
         requires { F.IsAlwaysCallable answer }
     {
+        // No `while`: a function has to end, and it is not known that input does.
         for _ in 0..u64::MAX {
             if !self.next_line()? {
                 break;
             }
             let next = self
                 .console
-                .play_line(self.rt.alloc(), self.line.as_slice(), &mut self.out)?;
+                .play_line(self.line.as_slice(), &mut self.out)?;
             match next {
                 Next::Line => {}
                 Next::Engine(command) => answer(command, self.line.as_slice(), &mut self.out)?,
