@@ -3,7 +3,8 @@
 --   told         how many calls were played, or the refusal;  answers_after  the bytes for answers
 --   result_code  what is told, as one number
 -- Assumes nothing.
-use Rattle.std.specs.Prelude.{◌≡◌, ℕ, ◌+◌, ◌*◌, ◌/◌, ◌%◌, List, [], length, Ok, Err, Result}
+use Rattle.std.specs.Prelude.{◌≡◌, ℕ, ◌+◌, ◌*◌, ◌/◌, ◌%◌, List, [], length, Some, None, Option, Ok, Err, Result}
+use Rattle.std.specs.Option.{unwrap_or}
 use Rattle.answers.specs.Refusals.{ProgramRefusal, program_refusal_number}
 use Rattle.formats.specs.declared.instruction.Instruction.{Instruction}
 use Rattle.memory.specs.Bytes.{memory_in}
@@ -69,12 +70,12 @@ abbrev pub play_number : PlayRefusal → ℕ
 play_number (Program r) = program_refusal_number r
 play_number (BadSettings r) = check_number r
 
--- the number of the instruction that says so, 0 where it is none
-abbrev pub play_place : PlayRefusal → ℕ
-play_place (Program r) = r.place
-play_place (BadSettings r) = 0
+-- the place in the program that says so; settings have none
+abbrev pub play_place : PlayRefusal → Option ℕ
+play_place (Program r) = Some r.place
+play_place (BadSettings r) = None
 
--- what is told, as one number: the count, or the highest bit, the question from bit 32 on, and the instruction
+-- what is told, as one number: the count, or the highest bit, the question from bit 32 on, and the place, 0 where there is none
 abbrev pub result_code : Result ℕ PlayRefusal → ℕ
 result_code (Ok count) = count
-result_code (Err r) = 9223372036854775808 + play_number r * 4294967296 + play_place r % 4294967296
+result_code (Err r) = 9223372036854775808 + play_number r * 4294967296 + unwrap_or (play_place r) 0 % 4294967296

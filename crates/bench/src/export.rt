@@ -47,13 +47,13 @@ impl Refusal for PlayRefusal {
 }
 
 impl PlayRefusal {
-    // The number of the instruction that is refused, 0 where it is none.
-    pub fn place(self) -> usize
+    // The place in the program that is refused; settings have none.
+    pub fn place(self) -> Option<usize>
         ensures { result ≡ play_place self }
     {
         match self {
-            PlayRefusal::Program(refusal) => refusal.place,
-            PlayRefusal::Settings(_) => 0,
+            PlayRefusal::Program(refusal) => Some(refusal.place),
+            PlayRefusal::Settings(_) => None,
         }
     }
 }
@@ -95,7 +95,7 @@ fn result_code(res: Result<usize, PlayRefusal>) -> u64
         Ok(count) => count as u64,
         Err(refusal) => 9223372036854775808
             + u64::from(refusal.number()) * 4294967296
-            + refusal.place() as u64 % 4294967296,
+            + refusal.place().unwrap_or(0) as u64 % 4294967296,
     }
 }
 
