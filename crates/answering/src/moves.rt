@@ -12,10 +12,7 @@ use render::tell::tell_moved;
 use std::alloc::{AllocError, Global};
 
 // One move. A match and no closure: a text says which core moves.
-fn advance<M: Memory, O: Outlet>(
-    desk: &mut Desk<M, O>,
-    which: Move,
-) -> Result<Answer, StepRefusal>
+fn advance<M: Memory, O: Outlet>(desk: &mut Desk<M, O>, which: Move) -> Result<Answer, StepRefusal>
     ensures after { desk.new ≡ (moved desk.old which).engine }
     ensures answer { result ≡ (moved desk.old which).answer }
 {

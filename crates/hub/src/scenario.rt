@@ -107,9 +107,7 @@ impl<'a, R: Read + Drop> Scenario<'a, R> {
             if !self.next_line()? {
                 break;
             }
-            let next = self
-                .console
-                .play_line(self.line.as_slice(), &mut self.out)?;
+            let next = self.console.play_line(self.line.as_slice(), &mut self.out)?;
             match next {
                 Next::Line => {}
                 Next::Engine(command) => answer(command, self.line.as_slice(), &mut self.out)?,
