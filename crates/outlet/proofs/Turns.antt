@@ -4,7 +4,7 @@ use Rattle.std.proofs.lemmas.Bool.{lt-ltb}
 use Rattle.std.proofs.lemmas.Bool.Decides.{nat_tests}
 use Rattle.formats.specs.declared.entry.SentEntry.{SentEntry}
 use Rattle.outlet.specs.Ring.{wrapped, ring_of}
-use Rattle.outlet.specs.Waiting.{send_answer, sent, take_answer, taken, room_taken}
+use Rattle.outlet.specs.Waiting.{sent, take_answer, taken, room_taken}
 use Rattle.outlet.proofs.Rings.{ring_more, ring_less}
 
 -- a place that was claimed: there was one, behind the filled ones
@@ -14,9 +14,6 @@ module _ (places first count place : ℕ) (v : Some place ≡ cond (ltb count pl
 
   pub claimed_place : place ≡ wrapped places (first + count)
   claimed_place = grind (arith, nat_tests)
-
-  pub claimed_answer : Ok tt ≡ send_answer (places - count)
-  claimed_answer = grind (arith, nat_tests)
 
 -- the oldest place, that was released: there was one
 module _ (first count place : ℕ) (v : Some place ≡ cond (ltb 0 count) (Some first) None) where

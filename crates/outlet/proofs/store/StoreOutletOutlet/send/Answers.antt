@@ -1,20 +1,15 @@
-use Rattle.std.proofs.Common.{◌≡◌, ◌+◌, ◌<◌, sym, refl, ap, ◌∙◌, arith}
+use Rattle.std.proofs.Common.{◌≡◌, ◌+◌, ◌<◌, sym, ap, ◌∙◌}
 use Rattle.std.proofs.lemmas.Bool.{lt-ltb}
 use Rattle.std.specs.Result.{result_ok}
-use Rattle.outlet.proofs.Turns.{claimed_room, claimed_answer, sends}
+use Rattle.outlet.proofs.Turns.{claimed_room, sends}
 use Rattle.outlet.proofs.store.StoreOutletOutlet.send.Goals as goal
 
-pub returns : goal.returns
-returns c =
+pub returns-clause-after : goal.returns-clause-after
+returns-clause-after c =
     let o = c.args.self.now in
-    let r = c.args.self.now.ring in
+    let r = o.ring in
     let v = sym (c.ok_or.ensures.ok_part ∙ ap result_ok c.in_ok-place.was) ∙ c.claim.ensures.value in
     let h : r.count < r.places = claimed_room r.places r.first r.count c.in_ok-place.place v in
     let t = lt-ltb r.count r.places h in
     let n : c.claim.new.self.count ≡ r.count + 1 = c.claim.ensures.ring.2 ∙ rw t in
-    record {
-      value = claimed_answer r.places r.first r.count c.in_ok-place.place v;
-      after = rw (n, c.claim.ensures.ring.1) (sends o.entries r.places r.first r.count c.in_ok-place.place (o.long ∙ sym o.whole) r.inside v c.args.entry);
-      left = omega (arith, c.claim.ensures.ring.0);
-      stands = refl;
-    }
+    rw (n, c.claim.ensures.ring.1) (sends o.entries r.places r.first r.count c.in_ok-place.place (o.long ∙ sym o.whole) r.inside v c.args.entry)
