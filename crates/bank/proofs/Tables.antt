@@ -1,9 +1,9 @@
 -- Telling the other cores of a write, one core after the other.
 -- Assumes nothing.
-use Rattle.std.proofs.Common.{◌≡◌, ℕ, zero, suc, ◌+◌, ◌<◌, ◌≤◌, true, false, ltb, leb, List, [], ◌∷◌, ◌++◌, map, length, get_or, take, drop, set, sym, refl, ap, ◌∙◌, append_assoc, append-nil, le_of_suc-le-suc, arith, length-take-le, take_all, le-ltb, lt-ltb}
+use Rattle.std.proofs.Common.{◌≡◌, ℕ, zero, suc, ◌+◌, ◌<◌, ◌≤◌, true, false, ltb, leb, List, [], ◌∷◌, ◌++◌, map, length, get_or, take, drop, set, sym, refl, ap, ◌∙◌, append_assoc, append-nil, le_of_suc-le-suc, arith, length-take-le, take_all, le-ltb}
 use lib.Seq.{set_at, get_or_at}
-use Rattle.std.proofs.lemmas.List.{length-map, take_more, drop_more, drop_all, get_or-map, map_push}
-use Rattle.std.proofs.lemmas.Bool.{and_from, and_parts, and_left, and_right, le-leb}
+use Rattle.std.proofs.lemmas.List.{length-map, take_more, drop_more, drop_all, get_or-map}
+use Rattle.std.proofs.lemmas.Bool.{and_left, and_right}
 use Rattle.model.specs.Cores.{Core}
 use Rattle.model.specs.Engine.{blank, all_below, new_core}
 use Rattle.bank.specs.Tables.{placeable, hit_at, others_hit}
@@ -66,11 +66,6 @@ all_told w a cores olds i past sofar =
     sofar ∙ ap (λ l. l ++ drop i olds) (take_all i (others_hit w a olds) (omega (arith, hit_length w a olds)))
     ∙ ap (λ l. others_hit w a olds ++ l) (drop_all i olds (omega arith)) ∙ append-nil (others_hit w a olds)
 
--- one place more below a bound
-below_push : (ps : List ℕ) (p n : ℕ) → all_below ps n ≡ true → p < n → all_below (ps ++ (p ∷ [])) n ≡ true
-below_push [] p n h lt = and_from (ltb p n) true (lt-ltb p n lt) refl
-below_push (q ∷ ps) p n h lt = let b = and_parts (ltb q n) (all_below ps n) h in and_from (ltb q n) (all_below (ps ++ (p ∷ [])) n) b.0 (below_push ps p n b.1 lt)
-
 -- a place that is not below it
 below_not : (ps : List ℕ) (i n : ℕ) → i < length ps → n ≤ get_or ps i 0 → all_below ps n ≡ false
 below_not [] i n h le = absurd (omega arith)
@@ -81,24 +76,6 @@ below_not (q ∷ ps) (suc i) n h le = and_right (ltb q n) (all_below ps n) (belo
 pub record Filled (cores : List Core) (places : List ℕ) (i : ℕ) : Type 0 where
   pub made : cores ≡ map new_core (take i places)
   pub below : all_below (take i places) 512 ≡ true
-
-pub filled_length : (cores : List Core) (places : List ℕ) (i : ℕ) → i ≤ length places → Filled cores places i → length cores ≡ i
-filled_length cores places i h f = ap length f.made ∙ length-map (take i places) new_core ∙ length-take-le i places h
-
--- one more
-pub filled_more : (cores more : List Core) (places : List ℕ) (i : ℕ) (c : Core) → i < length places → get_or places i 0 ≤ 511 → c ≡ new_core (get_or places i 0) → more ≡ cores ++ (c ∷ []) → Filled cores places i → Filled more places (i + 1)
-filled_more cores more places i c h low is pushed f =
-    let next = take_more places i 0 h in
-    record {
-      made = pushed ∙ ap (λ l. l ++ (c ∷ [])) f.made ∙ ap (λ x. map new_core (take i places) ++ (x ∷ [])) is ∙ sym (map_push new_core (take i places) (get_or places i 0)) ∙ ap (map new_core) (sym next);
-      below = ap (λ l. all_below l 512) next ∙ below_push (take i places) (get_or places i 0) 512 f.below (omega arith);
-    }
-
--- all
-pub filled_all : (cores : List Core) (places : List ℕ) (i : ℕ) → i ≡ length places → length places ≤ 8 → Filled cores places i → (placeable places ≡ true) × (cores ≡ map new_core places)
-filled_all cores places i all few f =
-    let whole : take i places ≡ places = take_all i places (omega arith) in
-    (and_from (leb (length places) 8) (all_below places 512) (le-leb (length places) 8 few) (ap (λ l. all_below l 512) (sym whole) ∙ f.below), f.made ∙ ap (map new_core) whole)
 
 -- a place above 511
 pub not_placeable_high : (places : List ℕ) (i : ℕ) → i < length places → 511 < get_or places i 0 → placeable places ≡ false

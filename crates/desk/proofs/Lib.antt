@@ -1,2 +1,1 @@
 pub mod Playing
-pub mod Tokens

@@ -1,9 +1,8 @@
 -- Instructions as words, each way.
 -- Assumes nothing.
-use Rattle.std.proofs.Common.{◌≡◌, ℕ, ◌/◌, ◌%◌, ◌^◌, ◌<◌, ◌≤◌, Bool, true, cond, eqb, Ok, Err, Result, refl, ap, ◌∙◌, arith, lt-ltb}
+use Rattle.std.proofs.Common.{◌≡◌, ℕ, ◌/◌, ◌%◌, ◌^◌, ◌<◌, Bool, true, cond, eqb, Ok, Result, refl, ap, ◌∙◌, arith, lt-ltb}
 use Rattle.std.proofs.lemmas.Bool.Decides.{nat_tests}
 use Rattle.answers.specs.declared.refusal.InstructionFault.{InstructionFault}
-use Rattle.answers.specs.declared.refusal.InstructionFault.TheVariants.{UnknownOpcode}
 use Rattle.formats.specs.declared.register.Register.{Register}
 use Rattle.formats.specs.declared.register.Register.TheVariants.{R0}
 use Rattle.formats.specs.declared.instruction.Fields.{Fields}
@@ -13,10 +12,6 @@ use Rattle.formats.specs.Belows.{immediate_of, channel_of}
 use Rattle.formats.specs.Registers.{register_number, register_at}
 use Rattle.formats.specs.Instructions.{joined, split, encoded, decoded, only_if, instruction_word, word_instruction}
 use Rattle.formats.proofs.Belows.{same_value}
-
--- an opcode above 14 is refused
-pub unknown_opcode : (f : Fields) → 15 ≤ f.opcode → decoded f ≡ Err UnknownOpcode
-unknown_opcode f h = grind (arith, nat_tests)
 
 register_below : (r : Register) → register_number r < 8
 register_below r = grind arith
