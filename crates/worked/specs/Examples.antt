@@ -1,6 +1,6 @@
 -- The engine's worked examples: four small programs and what their runs answer.
---   Mean, LoadFaults, TwoCounters, OneLine    one example each
---   Worked                                    all four together
+--   mean_program, load_program, counter_program, pair_program    the programs
+--   Worked                                                       what their runs answer
 -- Assumes nothing.
 use Rattle.std.specs.Prelude.{◌≡◌, ℕ, ◌<◌, List, [], ◌∷◌, map, Ok}
 use Rattle.std.proofs.Common.{lit<}
