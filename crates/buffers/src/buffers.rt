@@ -7,14 +7,14 @@ use outlet::store::PLACES;
 use std::alloc::{AllocError, Global};
 
 // A buffer for a shared memory.
-#[derive(Drop, PartialEq, Eq, Debug)]
+#[derive(Drop)]
 pub enum MemoryBuffer {
     Words(Vec<u32>),
     Bytes(Vec<u8>),
 }
 
 // A buffer for an outlet, which the store does not need. No Option: both forms have their name.
-#[derive(Drop, PartialEq, Eq, Debug)]
+#[derive(Drop)]
 pub enum OutletBuffer {
     Store,
     Bytes(Vec<u8>),

@@ -14,7 +14,7 @@ use crate::words::{Words, as_name};
 use buffers::buffers::{MemoryBuffer, OutletBuffer};
 use std::alloc::{AllocError, Global};
 
-#[derive(Drop, PartialEq, Eq, Debug)]
+#[derive(Drop)]
 pub enum Command {
     Packed(PackedCommand),
     // the memory that the next make hands in
@@ -27,7 +27,7 @@ pub enum Command {
 }
 
 // How many lines a core has, and where each core starts.
-#[derive(Drop, PartialEq, Eq, Debug)]
+#[derive(Drop)]
 pub struct Settings {
     pub lines: usize,
     pub places: Vec<usize>,

@@ -10,7 +10,7 @@ use crate::reason::{ParseError, Reason};
 use crate::words::Words;
 use std::alloc::{AllocError, Global};
 
-#[derive(Drop, PartialEq, Eq, Debug)]
+#[derive(Drop)]
 pub enum PackedCommand {
     // reads a program over the bytes
     Program(Vec<u8>),

@@ -12,7 +12,7 @@ use formats::register::Register;
 use model::place::Place;
 
 // What is asked of memory or outlet.
-#[derive(Clone, Copy, PartialEq, Eq, Debug)]
+#[derive(Clone, Copy)]
 pub enum Access {
     // the word at an address, for register d
     Load { address: usize, d: Register },
@@ -23,7 +23,7 @@ pub enum Access {
 }
 
 // What an instruction asks for; all but Moves go on with the next instruction.
-#[derive(Clone, Copy, PartialEq, Eq, Debug)]
+#[derive(Clone, Copy)]
 pub enum Ask {
     // only pc and registers change, to these
     Moves(Place),

@@ -10,7 +10,7 @@ use answers::answer::Fault;
 use model::place::Place;
 
 // What an instruction comes to outside every block, if it has no fault.
-#[derive(Clone, Copy, PartialEq, Eq, Debug)]
+#[derive(Clone, Copy)]
 pub enum Outer {
     Moves(Place),
     Accesses(Access),
@@ -21,7 +21,7 @@ pub enum Outer {
 }
 
 // What an instruction comes to inside a block, if it has no fault.
-#[derive(Clone, Copy, PartialEq, Eq, Debug)]
+#[derive(Clone, Copy)]
 pub enum Inner {
     // the block goes on there with so many BEGINs open
     Moves { place: Place, depth: u32 },

@@ -6,11 +6,8 @@ use Rattle.answers.specs.declared.answer.Answer.{Answer}
 use Rattle.answers.specs.declared.answer.Answer.TheVariants.{Running, Waiting, Done, Committing, Early, Full, Stopped, RolledBack, Retried, Faulted}
 use Rattle.answers.specs.Answers.{fault_number, answer_number}
 use Rattle.answers.specs.Refusals.{nothing_waits_number}
-use Rattle.answers.specs.declared.refusal.NothingWaits.{NothingWaits}
 use Rattle.formats.specs.declared.entry.SentEntry.{SentEntry}
 use Rattle.memory.specs.Bytes.{bytes_of}
-use Rattle.model.specs.declared.refusal.StepRefusal.{StepRefusal}
-use Rattle.model.specs.declared.refusal.ReadRefusal.{ReadRefusal}
 use Rattle.model.specs.declared.call.Reply.{Reply}
 use Rattle.model.specs.declared.call.Reply.TheVariants.{Stepped, Cleared, Held, Word, GivenBack, Taken}
 use Rattle.model.specs.Refusals.{step_number, clear_number, hold_number, read_number, give_back_number}
@@ -55,7 +52,10 @@ pc_in RolledBack = 0
 pc_in Retried = 0
 pc_in (Faulted f pc) = pc % 4294967296
 
--- what a reply says of a step, of a word and of an entry
+-- what a reply says of a call that answers no more than yes, of a step, of a word and of an entry
+abbrev pub no_part : Unit {0} → Part
+no_part u = record { answer = 0; fault = 0; word = 0 }
+
 abbrev pub part_of : Answer → Part
 part_of a = record { answer = answer_number a; fault = fault_in a; word = pc_in a }
 
@@ -66,42 +66,18 @@ abbrev pub sent_part : SentEntry → Part
 sent_part x = record { answer = x.channel.value; fault = 0; word = x.word }
 
 -- what a call answers, or its refusal
-abbrev pub told : {R : Type 0} → (R → ℕ) → ℕ → Result Part R → List ℕ
-told number kind (Ok p) = entry kind 0 p.answer p.fault p.word
-told number kind (Err r) = entry kind (number r) 0 0 0
-
--- a step that was not refused
-abbrev pub answer_bytes : Answer → List ℕ
-answer_bytes a = entry 1 0 (answer_number a) (fault_in a) (pc_in a)
-
--- a step
-abbrev pub stepped_bytes : Result Answer StepRefusal → List ℕ
-stepped_bytes (Ok a) = answer_bytes a
-stepped_bytes (Err r) = entry 1 (step_number r) 0 0 0
-
--- a call that answers no more than yes
-abbrev pub plain_bytes : {R : Type 0} → (R → ℕ) → ℕ → Result (Unit {0}) R → List ℕ
-plain_bytes number kind (Ok u) = entry kind 0 0 0 0
-plain_bytes number kind (Err r) = entry kind (number r) 0 0 0
-
--- a read
-abbrev pub word_bytes : Result ℕ ReadRefusal → List ℕ
-word_bytes (Ok w) = entry 5 0 0 0 w
-word_bytes (Err r) = entry 5 (read_number r) 0 0 0
-
--- a taking
-abbrev pub taken_bytes : Result SentEntry NothingWaits → List ℕ
-taken_bytes (Ok x) = entry 7 0 x.channel.value 0 x.word
-taken_bytes (Err r) = entry 7 (nothing_waits_number r) 0 0 0
+abbrev pub told : {X : Type 0} → {R : Type 0} → (R → ℕ) → ℕ → (X → Part) → Result X R → List ℕ
+told number kind part (Ok x) = entry kind 0 (part x).answer (part x).fault (part x).word
+told number kind part (Err r) = entry kind (number r) 0 0 0
 
 -- a reply
 abbrev pub reply_bytes : Reply → List ℕ
-reply_bytes (Stepped r) = stepped_bytes r
-reply_bytes (Cleared r) = plain_bytes clear_number 3 r
-reply_bytes (Held r) = plain_bytes hold_number 4 r
-reply_bytes (Word r) = word_bytes r
-reply_bytes (GivenBack r) = plain_bytes give_back_number 6 r
-reply_bytes (Taken r) = taken_bytes r
+reply_bytes (Stepped r) = told step_number 1 part_of r
+reply_bytes (Cleared r) = told clear_number 3 no_part r
+reply_bytes (Held r) = told hold_number 4 no_part r
+reply_bytes (Word r) = told read_number 5 word_part r
+reply_bytes (GivenBack r) = told give_back_number 6 no_part r
+reply_bytes (Taken r) = told nothing_waits_number 7 sent_part r
 
 -- what answers a word that is no call
 abbrev pub fault_bytes : CallFault → List ℕ

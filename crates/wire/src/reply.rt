@@ -73,7 +73,7 @@ fn eight(asked: Option<Kind>, refusal: u8, part: Part) -> [u8; 8]
 
 // The eight bytes of what a call answers.
 fn entry<R: Refusal + Drop>(kind: Kind, res: Result<Part, R>) -> [u8; 8]
-    ensures { result ≡ told R.Refusal.number (kind_number kind) res }
+    ensures { result ≡ told R.Refusal.number (kind_number kind) (λ p. p) res }
 {
     match res {
         Ok(part) => eight(Some(kind), 0, part),
