@@ -1,19 +1,15 @@
--- What an instruction comes to outside and inside a block, in the code's own form.
---   outside             an access names an address that the memory does not have;  LoadsWithin  a word to be loaded is there
---   outer_of, inner_of  the model's, at a place
---   OnwardOuter         where it leads stays inside a program of 512 instructions
---   OnwardInner         the same, and the block has not performed 4,096 instructions yet
+-- What an instruction comes to inside a block, in the code's own form.
+--   outside      an access names an address that the memory does not have;  LoadsWithin  a word to be loaded is there
+--   inner_of     the model's, at a place
+--   OnwardInner  where it leads stays inside a program of 512 instructions, and the block has not performed 4,096 instructions yet
 -- Assumes nothing.
 use Rattle.std.specs.Prelude.{ℕ, ◌<◌, ◌≤◌, Bool, false, Ok, Err, Result, nat_le}
 use Rattle.answers.specs.declared.answer.Fault.{Fault}
 use Rattle.model.specs.declared.place.Place.{Place}
 use Rattle.model.specs.Instructions.{put_reg}
-use Rattle.model.specs.Instructions.{Outer as ModelOuter, OuterFaults, OuterMoves, OuterLoads, OuterStores, OuterSends, Opens as OuterOpens, Stops as OuterStops}
 use Rattle.model.specs.Instructions.{Inner as ModelInner, InnerFaults, InnerMoves, InnerLoads, InnerStores, InnerSends, Closes as InnerCloses, Restarts as InnerRestarts, TakesToken as InnerTakesToken}
 use Rattle.cores.specs.declared.ask.Access.{Access}
 use Rattle.cores.specs.declared.ask.Access.TheVariants.{Load, Store, Send}
-use Rattle.cores.specs.declared.decide.Outer.{Outer}
-use Rattle.cores.specs.declared.decide.Outer.TheVariants.{Moves, Accesses, Opens, Stops}
 use Rattle.cores.specs.declared.decide.Inner.{Inner}
 use Rattle.cores.specs.declared.decide.Inner.TheVariants.{Moves as BlockMoves, Accesses as InBlock, Closes, Restarts, TakesToken}
 
@@ -28,24 +24,6 @@ abbrev pub LoadsWithin : (words : ℕ) → Access → Type 0
 LoadsWithin words (Load a d) = a < words
 LoadsWithin words (Store a w) = Unit {0}
 LoadsWithin words (Send e) = Unit {0}
-
--- outside every block
-abbrev pub outer_of : Place → Result Outer Fault → ModelOuter
-outer_of p (Err f) = OuterFaults f
-outer_of p (Ok (Moves q)) = OuterMoves q
-outer_of p (Ok (Accesses (Load a d))) = OuterLoads a (λ w. put_reg p.registers d w)
-outer_of p (Ok (Accesses (Store a w))) = OuterStores a w
-outer_of p (Ok (Accesses (Send e))) = OuterSends e
-outer_of p (Ok Opens) = OuterOpens
-outer_of p (Ok Stops) = OuterStops
-
--- the next place is one of 512, and a word to be loaded is there; HALT and a fault have no next place
-abbrev pub OnwardOuter : Place → (words : ℕ) → Result Outer Fault → Type 0
-OnwardOuter p words (Err f) = Unit {0}
-OnwardOuter p words (Ok (Moves q)) = q.pc ≤ 511
-OnwardOuter p words (Ok (Accesses x)) = (p.pc < 511) × LoadsWithin words x
-OnwardOuter p words (Ok Opens) = p.pc < 511
-OnwardOuter p words (Ok Stops) = Unit {0}
 
 -- inside a block
 abbrev pub inner_of : Place → Result Inner Fault → ModelInner

@@ -1,24 +1,13 @@
-// What an instruction comes to: outside every block, and inside one.
+// What an instruction comes to inside a block.
 ghost use Rattle.std.specs.Prelude.{◌≡◌, ◌<◌, if◌then◌else◌, nat_lt};
 ghost use Rattle.answers.specs.declared.answer.Fault.TheVariants.{TooLong};
-ghost use Rattle.model.specs.Instructions.{outer, inner, closing, InnerFaults};
+ghost use Rattle.model.specs.Instructions.{inner, closing, InnerFaults};
 ghost use Rattle.cores.specs.Asks.{ask_of, Onward};
-ghost use Rattle.cores.specs.Decisions.{outside, outer_of, OnwardOuter, inner_of, OnwardInner};
+ghost use Rattle.cores.specs.Decisions.{outside, inner_of, OnwardInner};
 
 use crate::ask::{Access, Ask, next};
 use answers::answer::Fault;
 use model::place::Place;
-
-// What an instruction comes to outside every block, if it has no fault.
-#[derive(Clone, Copy)]
-pub enum Outer {
-    Moves(Place),
-    Accesses(Access),
-    // a block is opened
-    Opens,
-    // the core stops
-    Stops,
-}
 
 // What an instruction comes to inside a block, if it has no fault.
 #[derive(Clone, Copy)]
@@ -35,30 +24,12 @@ pub enum Inner {
 }
 
 // Whether an access names an address that a memory of so many words does not have.
-fn outside(access: Access, words: usize) -> bool
+pub(crate) fn outside(access: Access, words: usize) -> bool
     ensures { result ≡ outside words access }
 {
     match access {
         Access::Load { address, .. } | Access::Store { address, .. } => address >= words,
         Access::Send(_) => false,
-    }
-}
-
-impl Outer {
-    // Outside every block, with a memory of so many words.
-    pub(crate) fn of(ask: Ask, place: Place, words: usize) -> Result<Outer, Fault>
-        requires onward { Onward place ask }
-        ensures value { outer_of place result ≡ outer words (ask_of place ask) }
-        ensures onward { OnwardOuter place words result }
-    {
-        match ask {
-            Ask::Accesses(access) if outside(access, words) => Err(Fault::AddressOutside),
-            Ask::Ends | Ask::Retries | Ask::Earlies => Err(Fault::NoOpenBlock),
-            Ask::Moves(place) => Ok(Outer::Moves(place)),
-            Ask::Accesses(access) => Ok(Outer::Accesses(access)),
-            Ask::Begins => Ok(Outer::Opens),
-            Ask::Halts => Ok(Outer::Stops),
-        }
     }
 }
 

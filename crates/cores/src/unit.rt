@@ -5,7 +5,6 @@ use model::state::State;
 use std::marker::Model;
 
 mod access;
-mod bypass;
 mod change;
 mod commit;
 mod early;

@@ -2,8 +2,10 @@
 ghost use Rattle.std.specs.Prelude.{◌≡◌, ◌<◌, ◌≤◌};
 ghost use Rattle.model.specs.Cores.{resting, turned_to, performed, rolled_back};
 ghost use Rattle.cores.specs.Bounds.{pc_most, count_most};
+ghost use Rattle.cores.specs.Steps.{opened};
 
 use super::Core;
+use crate::ask::next;
 use model::place::Place;
 use model::state::State;
 
@@ -17,6 +19,19 @@ impl Core {
         self.place = place;
         self.depth = 0;
         self.count = 0;
+        self.buffer.clear();
+    }
+
+    // The core goes into the block that its BEGIN opens.
+    pub(super) fn open(&mut self)
+        requires { self.old.place.pc < 511 }
+        ensures { self.new ≡ opened self.old }
+    {
+        self.state = State::Transaction;
+        self.saved = self.place;
+        self.place = next(self.place);
+        self.depth = 1;
+        self.count = 1;
         self.buffer.clear();
     }
 
