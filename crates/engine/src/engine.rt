@@ -8,6 +8,7 @@ use program::program::Program;
 use std::marker::Model;
 
 mod calls;
+mod looking;
 mod making;
 mod moving;
 mod stepping;

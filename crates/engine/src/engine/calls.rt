@@ -1,19 +1,18 @@
 // The calls of the engine that move no core.
 ghost use Rattle.std.specs.Prelude.{◌≡◌};
-ghost use Rattle.model.specs.Calls.{clear, hold, read, give_back, take_oldest, entry, holder, look, Tags};
+ghost use Rattle.model.specs.Calls.{clear, hold, read, give_back, take_oldest, entry, Tags};
 ghost use Rattle.bank.specs.Logs.{as_turn};
 ghost use Rattle.engine.specs.Engines.{held_as, given_as};
 
 use super::Engine;
 use crate::pass::Pass;
 use answers::refusal::NothingWaits;
-use cores::unit::Core;
 use formats::entry::{RecordEntry, SentEntry};
 use memory::shared::Memory;
 use model::refusal::{
     ClearRefusal, GiveBackRefusal, HoldRefusal, ReadRefusal, RecordRefusal, TagsRefusal,
 };
-use model::state::{Look, Token};
+use model::state::Token;
 use outlet::waiting::Outlet;
 
 impl<M: Memory, O: Outlet> Engine<M, O> {
@@ -86,20 +85,6 @@ impl<M: Memory, O: Outlet> Engine<M, O> {
         ensures { as_turn result ≡ entry self.now place }
     {
         self.log.get(place)
-    }
-
-    // Who has the token.
-    pub fn token(&self) -> Token
-        ensures { result ≡ holder self.now }
-    {
-        self.token
-    }
-
-    // What people see of a core, or None where there is no such core.
-    pub fn look(&self, i: usize) -> Option<Look>
-        ensures { result ≡ look self.now i }
-    {
-        self.table.get(i).map(Core::look)
     }
 
     // Copies a core's tagged addresses to the first places of a list, each once, and answers their number.
