@@ -1,12 +1,14 @@
 -- What an instruction comes to inside a block, in the code's own form.
 --   outside      an access names an address that the memory does not have;  LoadsWithin  a word to be loaded is there
---   inner_of     the model's, at a place
+--   decided      what an Ask comes to there, as the model has it
+--   inner_of     the code's Inner as the model's, at a place
 --   OnwardInner  where it leads stays inside a program of 512 instructions, and the block has not performed 4,096 instructions yet
 -- Assumes nothing.
-use Rattle.std.specs.Prelude.{ℕ, ◌<◌, ◌≤◌, Bool, false, Ok, Err, Result, nat_le}
+use Rattle.std.specs.Prelude.{ℕ, ◌<◌, ◌≤◌, Bool, false, Ok, Err, Result, if◌then◌else◌, nat_lt, nat_le}
 use Rattle.answers.specs.declared.answer.Fault.{Fault}
+use Rattle.answers.specs.declared.answer.Fault.TheVariants.{TooLong}
 use Rattle.model.specs.declared.place.Place.{Place}
-use Rattle.model.specs.Instructions.{put_reg}
+use Rattle.model.specs.Instructions.{put_reg, inner, Ask as ModelAsk}
 use Rattle.model.specs.Instructions.{Inner as ModelInner, InnerFaults, InnerMoves, InnerLoads, InnerStores, InnerSends, Closes as InnerCloses, Restarts as InnerRestarts, TakesToken as InnerTakesToken}
 use Rattle.cores.specs.declared.ask.Access.{Access}
 use Rattle.cores.specs.declared.ask.Access.TheVariants.{Load, Store, Send}
@@ -25,7 +27,11 @@ LoadsWithin words (Load a d) = a < words
 LoadsWithin words (Store a w) = Unit {0}
 LoadsWithin words (Send e) = Unit {0}
 
--- inside a block
+-- what an Ask comes to in a core's block, with a memory of so many words; a block of 4,096 performs no more
+abbrev pub decided : (words : ℕ) → Place → (depth count : ℕ) → ModelAsk → ModelInner
+decided words p depth count ask = if nat_lt count 4096 then inner words p depth ask else InnerFaults TooLong
+
+-- the code's Inner as the model's, at a place
 abbrev pub inner_of : Place → Result Inner Fault → ModelInner
 inner_of p (Err f) = InnerFaults f
 inner_of p (Ok (BlockMoves q d)) = InnerMoves q d

@@ -1,9 +1,8 @@
 // What an instruction comes to inside a block.
-ghost use Rattle.std.specs.Prelude.{◌≡◌, ◌<◌, if◌then◌else◌, nat_lt};
-ghost use Rattle.answers.specs.declared.answer.Fault.TheVariants.{TooLong};
-ghost use Rattle.model.specs.Instructions.{inner, closing, InnerFaults};
+ghost use Rattle.std.specs.Prelude.{◌≡◌, ◌<◌};
+ghost use Rattle.model.specs.Instructions.{closing};
 ghost use Rattle.cores.specs.Asks.{ask_of, Onward};
-ghost use Rattle.cores.specs.Decisions.{outside, inner_of, OnwardInner};
+ghost use Rattle.cores.specs.Decisions.{outside, decided, inner_of, OnwardInner};
 
 use crate::ask::{Access, Ask, next};
 use answers::answer::Fault;
@@ -44,7 +43,7 @@ impl Inner {
         words: usize,
     ) -> Result<Inner, Fault>
         requires onward { Onward place ask }
-        ensures value { inner_of place result ≡ (if nat_lt count 4096 then inner words place depth (ask_of place ask) else InnerFaults TooLong) }
+        ensures value { inner_of place result ≡ decided words place depth count (ask_of place ask) }
         ensures onward { OnwardInner place count words result }
     {
         match ask {

@@ -1,10 +1,8 @@
 // A step of a core, by its state and its instruction.
-ghost use Rattle.std.specs.Prelude.{◌≡◌, if◌then◌else◌, nat_lt};
-ghost use Rattle.answers.specs.declared.answer.Fault.TheVariants.{TooLong};
-ghost use Rattle.model.specs.Instructions.{inner, InnerFaults};
+ghost use Rattle.std.specs.Prelude.{◌≡◌};
 ghost use Rattle.model.specs.Cores.{outcome};
 ghost use Rattle.cores.specs.Asks.{ask_of, Onward};
-ghost use Rattle.cores.specs.Decisions.{inner_of, OnwardInner};
+ghost use Rattle.cores.specs.Decisions.{decided, inner_of, OnwardInner};
 ghost use Rattle.cores.specs.Units.{scene_view, outcome_of};
 
 use super::Core;
@@ -21,7 +19,7 @@ impl Core {
     // What an instruction comes to inside the core's block.
     fn inside(&self, ask: Ask, words: usize) -> Result<Inner, Fault>
         requires onward { Onward self.now.place ask }
-        ensures value { inner_of self.now.place result ≡ (if nat_lt self.now.count 4096 then inner words self.now.place self.now.depth (ask_of self.now.place ask) else InnerFaults TooLong) }
+        ensures value { inner_of self.now.place result ≡ decided words self.now.place self.now.depth self.now.count (ask_of self.now.place ask) }
         ensures onward { OnwardInner self.now.place self.now.count words result }
     {
         Inner::of(ask, self.place, self.depth, self.count, words)
