@@ -1,37 +1,15 @@
 -- What a line that was found tells of the lines, and lines that stay at different addresses.
 -- Assumes nothing.
-use Rattle.std.proofs.Common.{◌≡◌, ℕ, zero, suc, ◌+◌, ◌<◌, Bool, true, false, cond, ltb, eqb, ◌&&◌, List, [], ◌∷◌, ◌++◌, length, get_or, set, Some, None, Option, sym, refl, ap, ◌∙◌, subst, inl, inr, arith, lt-ltb, le-ltb, length-set}
-use Rattle.std.specs.List.{position, position_or_len, find, list_any}
-use Rattle.std.specs.Option.{option_map}
+use Rattle.std.proofs.Common.{◌≡◌, ℕ, zero, suc, ◌+◌, ◌<◌, Bool, true, false, cond, ltb, eqb, ◌&&◌, List, [], ◌∷◌, ◌++◌, length, get_or, set, Some, None, Option, MatchOption, sym, refl, ap, ◌∙◌, subst, inl, inr, arith, lt-ltb, le-ltb, length-set}
+use Rattle.std.specs.List.{position, position_or_len}
 use Rattle.std.proofs.lemmas.Bool.{cases_Bool, cond-false, ltb-true, ltb-false, or_parts}
 use Rattle.std.proofs.lemmas.Bool.Decides.{nat_tests}
 use Rattle.arrayvec.specs.ArrayVec.{ArrayVec, with_items}
 use Rattle.arrayvec.proofs.ArrayVecLemmas.{items-with_items}
-use Rattle.model.specs.declared.place.Line.{Line}
+use Rattle.model.specs.declared.line.Line.{Line}
 use Rattle.model.specs.declared.effect.Effect.TheVariants.{Nothing, Wrote}
-use Rattle.model.specs.Lines.{holds, value_at, tagged, restored, store_at, any_dirty, cleaned, wrote, left, Distinct}
-use Rattle.cores.specs.Buffers.{index_of, dirty_index}
-
--- what stands for a line past the end
-abbrev pub no_line : Line
-no_line = record { address = 0; value = 0; tag = false; dirty = false }
-
--- the line at a place of the list
-abbrev pub line_at : List Line → ℕ → Line
-line_at ls i = get_or ls i no_line
-
--- the model's words in the library's
-pub any_dirty_any : (ls : List Line) → list_any (λ l. l.dirty) ls ≡ any_dirty ls
-any_dirty_any [] = refl
-any_dirty_any (l ∷ ls) = rw (any_dirty_any ls)
-
-pub tagged_any : (ls : List Line) (a : ℕ) → list_any (λ l. eqb l.address a && l.tag) ls ≡ tagged ls a
-tagged_any [] a = refl
-tagged_any (l ∷ ls) a = rw (tagged_any ls a)
-
-pub value_found : (ls : List Line) (a : ℕ) → option_map (λ l. l.value) (find (λ l. eqb l.address a) ls) ≡ cond (holds ls a) (Some (value_at ls a)) None
-value_found [] a = refl
-value_found (l ∷ ls) a = elim (cases_Bool (eqb l.address a)) [ inl t ↦ rw t | inr t ↦ rw t (value_found ls a) ]
+use Rattle.model.specs.Lines.{has_line, value_at, store_at, next_write, after_write, Distinct}
+use Rattle.cores.specs.Buffers.{line_at, restored, dirty_index, LineOf}
 
 -- one place further on
 abbrev later : Option ℕ → Option ℕ
@@ -59,17 +37,16 @@ later_none : (o : Option ℕ) → later o ≡ None → o ≡ None
 later_none None h = refl
 later_none (Some j) h = cc
 
--- a line that was found
-pub record Found (ls : List Line) (a i : ℕ) : Type 0 where
-  pub within : i < length ls
-  pub held : holds ls a ≡ true
-  pub stored : (w : ℕ) → store_at ls a w ≡ set ls i (restored (line_at ls i) w)
+-- where the line at an address stands
+abbrev index_of : List Line → ℕ → Option ℕ
+index_of ls a = position (λ l. eqb l.address a) ls
 
-found_later : (l : Line) (ls : List Line) (a i : ℕ) → eqb l.address a ≡ false → Found ls a i → Found (l ∷ ls) a (suc i)
+found_later : (l : Line) (ls : List Line) (a i : ℕ) → eqb l.address a ≡ false → LineOf ls a i → LineOf (l ∷ ls) a (suc i)
 found_later l ls a i t f =
-    record { within = omega (arith, f.within); held = rw t f.held; stored = λ w. rw t (ap (λ x. l ∷ x) (f.stored w)) }
+    record { within = omega (arith, f.within); has = rw t f.has; value = rw t f.value; stored = λ w. rw t (ap (λ x. l ∷ x) (f.stored w)) }
 
-pub found : (ls : List Line) (a i : ℕ) → index_of ls a ≡ Some i → Found ls a i
+-- a line that was found
+pub found : (ls : List Line) (a i : ℕ) → index_of ls a ≡ Some i → LineOf ls a i
 found [] a i h = cc
 found (l ∷ ls) a i h =
     let e = sym (position_next (λ l. eqb l.address a) l ls) ∙ h in
@@ -77,32 +54,36 @@ found (l ∷ ls) a i h =
       | inl t ↦
           let f : Some 0 ≡ Some i = rw t at e in
           let first : i ≡ 0 = cc in
-          rw first (record { within = omega arith; held = rw t; stored = λ w. rw t })
+          rw first (record { within = omega arith; has = rw t; value = rw t; stored = λ w. rw t })
       | inr t ↦
           let p = later_some (index_of ls a) i (rw t at e) in
-          subst (λ i. Found (l ∷ ls) a i) (sym p.2) (found_later l ls a p.0 t (found ls a p.0 p.1))
+          subst (λ i. LineOf (l ∷ ls) a i) (sym p.2) (found_later l ls a p.0 t (found ls a p.0 p.1))
     ]
 
 -- no line was found
-pub not_held : (ls : List Line) (a : ℕ) → index_of ls a ≡ None → holds ls a ≡ false
-not_held [] a h = refl
-not_held (l ∷ ls) a h =
+pub not_found : (ls : List Line) (a : ℕ) → index_of ls a ≡ None → has_line ls a ≡ false
+not_found [] a h = refl
+not_found (l ∷ ls) a h =
     let e = sym (position_next (λ l. eqb l.address a) l ls) ∙ h in
     elim (cases_Bool (eqb l.address a)) [
       | inl t ↦ let f : ◌≡◌ {A = Option ℕ} (Some 0) None = rw t at e in cc
-      | inr t ↦ rw t (not_held ls a (later_none (index_of ls a) (rw t at e)))
+      | inr t ↦ rw t (not_found ls a (later_none (index_of ls a) (rw t at e)))
     ]
 
--- where no line is, none is stored to
-pub not_stored : (ls : List Line) (a w : ℕ) → holds ls a ≡ false → store_at ls a w ≡ ls
-not_stored [] a w h = refl
-not_stored (l ∷ ls) a w h = let p = or_parts (eqb l.address a) (holds ls a) h in rw p.0 (ap (λ x. l ∷ x) (not_stored ls a w p.1))
+-- what looking for an address tells
+pub looked_up : (ls : List Line) (a : ℕ) (o : Option ℕ) → o ≡ index_of ls a → MatchOption o (has_line ls a ≡ false) (LineOf ls a)
+looked_up ls a None h = not_found ls a (sym h)
+looked_up ls a (Some i) h = found ls a i (sym h)
+
+-- a line that was written
+abbrev pub written_out : Line → Line
+written_out l = record l { dirty = false }
 
 -- the oldest dirty line
 pub record Oldest (ls : List Line) (i : ℕ) : Type 0 where
   pub within : i < length ls
-  pub writes : wrote ls ≡ Wrote (line_at ls i).address (line_at ls i).value
-  pub rest : left ls ≡ set ls i (cleaned (line_at ls i))
+  pub writes : next_write ls ≡ Wrote (line_at ls i).address (line_at ls i).value
+  pub rest : after_write ls ≡ set ls i (written_out (line_at ls i))
 
 oldest_later : (l : Line) (ls : List Line) (i : ℕ) → l.dirty ≡ false → Oldest ls i → Oldest (l ∷ ls) (suc i)
 oldest_later l ls i t f =
@@ -124,8 +105,8 @@ oldest (l ∷ ls) i h =
 
 -- no line is dirty
 pub record Clean (ls : List Line) : Type 0 where
-  pub silent : wrote ls ≡ Nothing
-  pub same : left ls ≡ ls
+  pub silent : next_write ls ≡ Nothing
+  pub same : after_write ls ≡ ls
 
 pub clean : (ls : List Line) → dirty_index ls ≡ None → Clean ls
 clean [] h = record { silent = refl; same = refl }
@@ -139,28 +120,28 @@ clean (l ∷ ls) h =
     ]
 
 -- lines that change but stay where they are
-holds_set : (ls : List Line) (i : ℕ) (k : Line) (a : ℕ) → k.address ≡ (line_at ls i).address → holds (set ls i k) a ≡ holds ls a
-holds_set [] i k a h = refl
-holds_set (l ∷ ls) zero k a h = rw h
-holds_set (l ∷ ls) (suc i) k a h = rw (holds_set ls i k a h)
+has_line_set : (ls : List Line) (i : ℕ) (k : Line) (a : ℕ) → k.address ≡ (line_at ls i).address → has_line (set ls i k) a ≡ has_line ls a
+has_line_set [] i k a h = refl
+has_line_set (l ∷ ls) zero k a h = rw h
+has_line_set (l ∷ ls) (suc i) k a h = rw (has_line_set ls i k a h)
 
 distinct_set : (ls : List Line) (i : ℕ) (k : Line) → k.address ≡ (line_at ls i).address → Distinct ls → Distinct (set ls i k)
 distinct_set [] i k h d = d
-distinct_set (l ∷ ls) zero k h d = (ap (holds ls) h ∙ d.0, d.1)
-distinct_set (l ∷ ls) (suc i) k h d = (holds_set ls i k l.address h ∙ d.0, distinct_set ls i k h d.1)
+distinct_set (l ∷ ls) zero k h d = (ap (has_line ls) h ∙ d.0, d.1)
+distinct_set (l ∷ ls) (suc i) k h d = (has_line_set ls i k l.address h ∙ d.0, distinct_set ls i k h d.1)
 
 -- one more line, at an address that has none
-holds_push : (ls : List Line) (k : Line) (a : ℕ) → holds ls a ≡ false → eqb k.address a ≡ false → holds (ls ++ k ∷ []) a ≡ false
-holds_push [] k a h n = rw n
-holds_push (l ∷ ls) k a h n = let p = or_parts (eqb l.address a) (holds ls a) h in rw p.0 (holds_push ls k a p.1 n)
+has_line_push : (ls : List Line) (k : Line) (a : ℕ) → has_line ls a ≡ false → eqb k.address a ≡ false → has_line (ls ++ k ∷ []) a ≡ false
+has_line_push [] k a h n = rw n
+has_line_push (l ∷ ls) k a h n = let p = or_parts (eqb l.address a) (has_line ls a) h in rw p.0 (has_line_push ls k a p.1 n)
 
 eqb_swap : (a b : ℕ) → eqb a b ≡ false → eqb b a ≡ false
 eqb_swap a b h = grind (arith, nat_tests)
 
-pub distinct_push : (ls : List Line) (k : Line) → holds ls k.address ≡ false → Distinct ls → Distinct (ls ++ k ∷ [])
+pub distinct_push : (ls : List Line) (k : Line) → has_line ls k.address ≡ false → Distinct ls → Distinct (ls ++ k ∷ [])
 distinct_push [] k h d = (refl, tt)
 distinct_push (l ∷ ls) k h d =
-    let p = or_parts (eqb l.address k.address) (holds ls k.address) h in (holds_push ls k l.address d.0 (eqb_swap l.address k.address p.0), distinct_push ls k p.1 d.1)
+    let p = or_parts (eqb l.address k.address) (has_line ls k.address) h in (has_line_push ls k l.address d.0 (eqb_swap l.address k.address p.0), distinct_push ls k p.1 d.1)
 
 -- a line of a vector changes, and stays where it is: `shown` is what the vector shows of its lines for the change
 module _ (v : ArrayVec Line) (shown ls : List Line) (same : shown ≡ v.items) (seen : v.items ≡ ls) (f : Line → Line) (i : ℕ) where

@@ -1,7 +1,6 @@
-pub mod Asks
+pub mod Onwards
 pub mod Bounds
 pub mod Buffers
-pub mod Decisions
+pub mod Cores
+pub mod Shareds
 pub mod Steps
-pub mod Tags
-pub mod Units

@@ -1,21 +1,24 @@
 // The write buffer of a core: up to 32 lines, in the order in which they were made.
-use arrayvec::ArrayVec;
-use model::place::Line;
-use std::marker::Model;
+ghost use Rattle.std.specs.Prelude.{◌≡◌, ◌<◌, ◌≤◌, [], ◌∷◌, ◌++◌, true, false, length, slice_set, MatchOption};
+ghost use Rattle.model.specs.Lines.{has_line, tagged, tags, any_dirty, next_write, after_write, Distinct};
+ghost use Rattle.model.specs.Calls.{LineTags};
+ghost use Rattle.cores.specs.Buffers.{line_at, restored, dirty_index, LineOf, wrote_by};
 
-mod access;
-mod change;
-mod tags;
+use arrayvec::ArrayVec;
+use formats::bounds::MOST_LINES;
+use model::line::Line;
+use model::refusal::TagsRefusal;
+use std::marker::Model;
 
 #[derive(Drop)]
 pub struct Buffer {
-    lines: ArrayVec<Line, 32>,
+    lines: ArrayVec<Line, MOST_LINES>,
 }
 
 // Seen as the list of its lines, oldest first, each at an address of its own.
 impl Model for Buffer {
     ghost use Rattle.std.specs.Prelude.{List};
-    ghost use Rattle.model.specs.declared.place.Line.{Line};
+    ghost use Rattle.model.specs.declared.line.Line.{Line};
     ghost use Rattle.model.specs.Lines.{Distinct};
 
     ghost Value = { List Line };
@@ -23,4 +26,136 @@ impl Model for Buffer {
     ghost view = { λ b. b.lines.items };
 
     ghost invariant = { λ b. Distinct b.lines.items };
+}
+
+impl Buffer {
+    // A buffer with no line.
+    pub(crate) fn new() -> Buffer
+        ensures { result ≡ [] }
+    {
+        Buffer {
+            lines: ArrayVec::new(),
+        }
+    }
+
+    // The lines, oldest first.
+    fn lines(&self) -> &[Line]
+        ensures value { result.now ≡ self.now }
+        ensures few { length self.now ≤ 32 }
+        ensures apart { Distinct self.now }
+    {
+        self.lines.as_slice()
+    }
+
+    // How many lines there are.
+    pub(crate) fn len(&self) -> usize
+        ensures { result ≡ length self.now }
+    {
+        self.lines.len()
+    }
+
+    // Where the line at an address stands, or None where there is none.
+    pub(crate) fn find(&self, address: usize) -> Option<usize>
+        ensures { MatchOption result (has_line self.now address ≡ false) (λ i. LineOf self.now address i) }
+    {
+        self.lines().iter().position(|line| line.address == address)
+    }
+
+    // The value of a line.
+    pub(crate) fn value(&self, index: usize) -> u32
+        requires { index < length self.now }
+        ensures { result ≡ (line_at self.now index).value }
+    {
+        self.lines()[index].value
+    }
+
+    // Makes one more line, at an address that has none.
+    #[tactic(auto, using(crate::proofs::Buffers::distinct_push))]
+    pub(crate) fn push(&mut self, line: Line)
+        requires room { length self.old < 32 }
+        requires fresh { has_line self.old line.address ≡ false }
+        ensures { self.new ≡ self.old ++ line ∷ [] }
+    {
+        self.lines.push(line);
+    }
+
+    // Puts another word into a line, which is dirty then; its tag stays as it is.
+    pub(crate) fn store(&mut self, index: usize, value: u32)
+        requires { index < length self.old }
+        ensures { self.new ≡ slice_set self.old index (restored (line_at self.old index) value) }
+    {
+        let line = &mut self.lines[index];
+        line.value = value;
+        line.dirty = true;
+    }
+
+    // Whether a line is dirty.
+    pub(crate) fn any_dirty(&self) -> bool
+        ensures { result ≡ any_dirty self.now }
+    {
+        self.lines().iter().any(|line| line.dirty)
+    }
+
+    // Where the oldest dirty line stands, or None where no line is dirty.
+    fn first_dirty(&self) -> Option<usize>
+        ensures { result ≡ dirty_index self.now }
+    {
+        self.lines().iter().position(|line| line.dirty)
+    }
+
+    // Writes out the oldest dirty line, which is dirty no more; answers its address and word, or None where no line is dirty.
+    pub(crate) fn write_next(&mut self) -> Option<(usize, u32)>
+        ensures write { wrote_by result ≡ next_write self.old }
+        ensures lines { self.new ≡ after_write self.old }
+    {
+        let index = self.first_dirty()?;
+        let line = &mut self.lines[index];
+        line.dirty = false;
+        Some((line.address, line.value))
+    }
+
+    // Empties the buffer.
+    pub(crate) fn clear(&mut self)
+        ensures { self.new ≡ [] }
+    {
+        self.lines.clear();
+    }
+
+    // Whether there is a line at an address with its read tag set.
+    pub(crate) fn tagged(&self, address: usize) -> bool
+        ensures { result ≡ tagged self.now address }
+    {
+        self.lines()
+            .iter()
+            .any(|line| line.address == address && line.tag)
+    }
+
+    // The tagged addresses, in the order of the lines.
+    fn tagged_addresses(&self) -> ArrayVec<usize, MOST_LINES>
+        ensures value { result.items ≡ tags self.now }
+        ensures apart { Distinct self.now }
+    {
+        let tagged = self
+            .lines()
+            .iter()
+            .filter(|line| line.tag)
+            .map(|line| line.address);
+        // All find room: there are at most 32 lines.
+        let mut addresses = ArrayVec::new();
+        let _ = addresses.extend(tagged);
+        addresses
+    }
+
+    // Copies the tagged addresses to the first places of a list and answers their number.
+    pub(crate) fn tags(&self, list: &mut [usize]) -> Result<usize, TagsRefusal>
+        ensures { LineTags self.now list.old list.new result }
+    {
+        let addresses = self.tagged_addresses();
+        let count = addresses.len();
+        if count > list.len() {
+            return Err(TagsRefusal::TooShort);
+        }
+        list[..count].copy_from_slice(&addresses);
+        Ok(count)
+    }
 }

@@ -1,8 +1,8 @@
-// One core: its write buffer, what its instruction asks for, and its state machine.
+// One core: its write buffer, the record, what the cores share, and the state machine of a step.
 #![tactic(auto)]
 
-mod ask;
 mod buffer;
-mod decide;
-pub mod scene;
-pub mod unit;
+mod instructions;
+pub mod record;
+pub mod shared;
+pub mod state_machine;

@@ -5,7 +5,7 @@ use Rattle.std.proofs.lemmas.Bool.Decides.{nat_tests}
 use Rattle.formats.specs.declared.entry.Mark.{Mark}
 use Rattle.formats.specs.declared.entry.RecordEntry.{RecordEntry}
 use Rattle.formats.specs.Belows.{core_of, count_of}
-use Rattle.formats.specs.Records.{mark_number, mark_at, record_word, in_range, word_record}
+use Rattle.formats.specs.Records.{mark_number, mark_at, entry, record_word, in_range, word_record}
 use Rattle.formats.proofs.Belows.{same_value}
 
 mark_again : (m : Mark) → mark_at (mark_number m) ≡ m
@@ -25,6 +25,13 @@ word_again e =
     let core : core_of (record_word e / 536870912) ≡ e.core = same_value _ _ _ (grind (arith, e.core.fits, e.count.fits)) in
     let count : count_of (record_word e % 65536) ≡ e.count = same_value _ _ _ (grind (arith, e.core.fits, e.count.fits)) in
     rw (word_in_range e, mark, core, count, mark_again e.mark)
+
+-- the entry of an entry's own numbers is that entry
+pub entry_again : (e : RecordEntry) → entry e.core.value e.mark e.count.value ≡ e
+entry_again e =
+    let core : core_of e.core.value ≡ e.core = same_value _ _ _ (omega (arith, e.core.fits)) in
+    let count : count_of e.count.value ≡ e.count = same_value _ _ _ (omega (arith, e.count.fits)) in
+    rw (core, count)
 
 -- packing what a word unpacks to gives the word
 pub word_back : (w : ℕ) (e : RecordEntry) → w < 256 ^ 4 → word_record w ≡ Ok e → record_word e ≡ w

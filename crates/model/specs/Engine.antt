@@ -16,8 +16,8 @@ use Rattle.model.specs.declared.state.State.TheVariants.{Bypass, Transaction, Ab
 use Rattle.model.specs.declared.state.Token.{Token}
 use Rattle.model.specs.declared.state.Token.TheVariants.{Free}
 use Rattle.model.specs.declared.effect.Effect.{Effect}
-use Rattle.model.specs.declared.effect.Effect.TheVariants.{Wrote}
-use Rattle.model.specs.Instructions.{memory_after, sent_by}
+use Rattle.model.specs.declared.effect.Effect.TheVariants.{Wrote, Sent}
+use Rattle.model.specs.Instructions.{memory_after}
 use Rattle.model.specs.Lines.{tagged}
 use Rattle.model.specs.Cores.{Core, Outlet, Shared, Outcome, resting}
 
@@ -115,7 +115,8 @@ engine_of s cs next = record {
 
 -- the outlet after an effect
 abbrev pub outlet_after : Effect → Outlet → Outlet
-outlet_after x o = record { waiting = o.waiting ++ sent_by x; room = o.room - length (sent_by x) }
+outlet_after (Sent y) o = record { waiting = o.waiting ++ y ∷ []; room = o.room - 1 }
+outlet_after _ o = o
 
 -- what the cores share, after a step of one
 abbrev pub shared_after : Outcome → Shared → Shared

@@ -1,3 +1,0 @@
-pub mod Lending
-pub mod Logs
-pub mod Tables

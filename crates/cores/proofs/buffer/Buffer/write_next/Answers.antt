@@ -1,0 +1,26 @@
+use Rattle.std.proofs.Common.{refl, sym, ap, ◌∙◌}
+use Rattle.model.specs.declared.line.Line.{Line}
+use Rattle.model.specs.declared.effect.Effect.TheVariants.{Wrote}
+use Rattle.cores.proofs.Buffers.{written_out, oldest, clean, line_shown, changed, changed_apart}
+use Rattle.cores.proofs.buffer.Buffer.write_next.Goals as goal
+
+pub returns-in_err-index-clause-write : goal.returns-in_err-index-clause-write
+returns-in_err-index-clause-write c = rw c.from_residual.ensures (sym (clean c.args.self.now (sym c.first_dirty.ensures ∙ c.in_err-index.was)).silent)
+
+pub returns-in_err-index-clause-lines : goal.returns-in_err-index-clause-lines
+returns-in_err-index-clause-lines c = sym (clean c.args.self.now (sym c.first_dirty.ensures ∙ c.in_err-index.was)).same
+
+pub invariant_of-self : goal.invariant_of-self
+invariant_of-self c =
+    changed_apart c.self.inside.lines c.deref_mut.result.now c.args.self.now c.deref_mut.ensures.value c.self.view_is written_out c.in_ok-index.index (λ l. refl) c.self.invariant
+
+pub returns-clause-write : goal.returns-clause-write
+returns-clause-write c =
+    let f = oldest c.args.self.now c.in_ok-index.index (sym c.first_dirty.ensures ∙ c.in_ok-index.was) in
+    ap (λ (l : Line). Wrote l.address l.value) (line_shown c.self.inside.lines c.deref_mut.result.now c.args.self.now c.deref_mut.ensures.value c.self.view_is written_out c.in_ok-index.index)
+    ∙ sym f.writes
+
+pub returns-clause-lines : goal.returns-clause-lines
+returns-clause-lines c =
+    let f = oldest c.args.self.now c.in_ok-index.index (sym c.first_dirty.ensures ∙ c.in_ok-index.was) in
+    changed c.self.inside.lines c.deref_mut.result.now c.args.self.now c.deref_mut.ensures.value c.self.view_is written_out c.in_ok-index.index ∙ sym f.rest
