@@ -57,6 +57,18 @@ impl Model for Core {
     ghost invariant = { Bounded };
 }
 
+// What stands where a list of fixed capacity has no core: a new core at instruction 0.
+impl Default for Core {
+    ghost use Rattle.std.specs.Prelude.{◌≡◌};
+    ghost use Rattle.model.specs.Engine.{new_core};
+
+    ghost is_default = { λ c. c ≡ new_core 0 };
+
+    fn default() -> Core {
+        Core::new(0).unwrap()
+    }
+}
+
 /// What a step answers: what the core says, and the address that it wrote, if it wrote one.
 #[derive(Clone, Copy)]
 pub struct Stepped {

@@ -1,3 +1,3 @@
+pub mod CoreTables
 pub mod Making
-pub mod Rooms
-pub mod Applying
+pub mod Stepping

@@ -1,14 +1,8 @@
--- Entry places that lie below a bound.
+-- Entry places that lie below a bound lie below a larger one.
 -- Assumes nothing.
-use Rattle.std.proofs.Common.{◌≡◌, ℕ, ◌≤◌, true, ◌&&◌, ltb, List, [], ◌∷◌, refl, ap, arith, ltb-true, lt-ltb}
-use Rattle.std.specs.List.{list_all}
+use Rattle.std.proofs.Common.{◌≡◌, ℕ, ◌≤◌, true, ltb, List, [], ◌∷◌, refl, arith, ltb-true, lt-ltb}
 use Rattle.std.proofs.lemmas.Bool.{and_from, and_parts}
 use Rattle.model.specs.Engine.{all_below}
-
--- whether all are below, as a test of each
-pub list_all_below : (ps : List ℕ) (n : ℕ) → list_all (λ p. ltb p n) ps ≡ all_below ps n
-list_all_below [] n = refl
-list_all_below (p ∷ ps) n = ap (λ b. ltb p n && b) (list_all_below ps n)
 
 pub below_wider : (ps : List ℕ) (m n : ℕ) → m ≤ n → all_below ps m ≡ true → all_below ps n ≡ true
 below_wider [] m n h all = refl

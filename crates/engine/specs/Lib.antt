@@ -1,2 +1,3 @@
+pub mod CoreTables
 pub mod Engines
-pub mod Steps
+pub mod Lending

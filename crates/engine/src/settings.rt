@@ -1,14 +1,13 @@
 // What an engine is made from besides memory and outlet.
-ghost use Rattle.std.specs.Prelude.{◌≡◌, true, false};
-ghost use Rattle.std.specs.Result.{is_err};
-ghost use Rattle.bank.specs.Tables.{placeable};
+ghost use Rattle.std.specs.Prelude.{◌≡◌, ◌≤◌, true, length, OnOk};
 ghost use Rattle.model.specs.Engine.{all_below, check};
 
+use formats::bounds::{MOST_CORES, MOST_ENGINE_WORDS, MOST_LINES};
 use model::refusal::CheckRefusal;
 use program::program::Program;
 use std::marker::Model;
 
-// A program, the places where its cores begin, and how many lines each core has.
+/// A program, the places where its cores begin, and how many lines each core has.
 #[derive(Drop)]
 pub struct Settings<'a> {
     pub program: &'a Program,
@@ -33,18 +32,19 @@ fn all_below(places: &[usize], bound: usize) -> bool
 }
 
 impl Settings<'_> {
-    // The first refusal, with a memory of so many words. Entry places that pass can be placed.
+    /// The first refusal, with a memory of so many words.
     pub fn check(&self, words: usize) -> Result<(), CheckRefusal>
         ensures answer { result ≡ check self.now words }
-        ensures placeable { is_err result ≡ false → placeable self.now.places ≡ true }
+        ensures few { OnOk result (length self.now.places ≤ 8) }
+        ensures low { OnOk result (all_below self.now.places 512 ≡ true) }
     {
-        if !(1..=8).contains(&self.places.len()) {
+        if !(1..=MOST_CORES).contains(&self.places.len()) {
             return Err(CheckRefusal::CoreCount);
         }
-        if !(1..=32).contains(&self.lines) {
+        if !(1..=MOST_LINES).contains(&self.lines) {
             return Err(CheckRefusal::LineCount);
         }
-        if !(1..=4096).contains(&words) {
+        if !(1..=MOST_ENGINE_WORDS).contains(&words) {
             return Err(CheckRefusal::MemoryLength);
         }
         if !all_below(self.places, self.program.len()) {
