@@ -7,7 +7,7 @@ use Rattle.formats.specs.declared.entry.SentEntry.{SentEntry}
 use Rattle.model.specs.declared.call.Call.{Call}
 use Rattle.model.specs.Engine.{make}
 use Rattle.model.specs.Runs.{plays}
-use Rattle.model.specs.Journal.{Run, more, mores, fresh, history}
+use Rattle.model.specs.Traces.{Run, extended, extended_by, fresh, history}
 use Rattle.model.specs.Laws.{Serial, RollBack, HeldRead, Observed, Played, Laws}
 use Rattle.laws.proofs.Calls.{always}
 use Rattle.laws.proofs.RollBack.{roll_back_at}
@@ -24,9 +24,9 @@ held_read_lem s m o cs a w p = grind (arith, nat_tests, (always s m o cs).held)
 pub observed : Observed
 observed s m o cs c = grind (arith, append-nil {A = SentEntry})
 
-mores_plays : (cs : List Call) (r : Run) → (mores r cs).engine ≡ plays r.engine cs
+mores_plays : (cs : List Call) (r : Run) → (extended_by r cs).engine ≡ plays r.engine cs
 mores_plays [] r = refl
-mores_plays (c ∷ cs) r = mores_plays cs (more r c)
+mores_plays (c ∷ cs) r = mores_plays cs (extended r c)
 
 pub is_played : Played
 is_played s m o cs = mores_plays cs (fresh (make s m o))
