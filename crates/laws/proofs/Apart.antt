@@ -21,8 +21,8 @@ use Rattle.laws.proofs.Tags.{distinct_append, distinct_store_at, distinct_after_
 step_fine : (st : State) (s : Shared) (i : ℕ) (c : Core) → Distinct c.lines → Distinct (step_by_state st s i c).core.lines
 step_fine st s i c d = grind (arith, distinct_append, distinct_store_at, distinct_after_write)
 
-struck_lines : (x : Effect) (c : Core) → (core_after x c).lines ≡ c.lines
-struck_lines x c = grind arith
+after_lines : (x : Effect) (c : Core) → (core_after x c).lines ≡ c.lines
+after_lines x c = grind arith
 
 -- of every core of an engine
 abbrev Apart : Engine → Type 0
@@ -30,7 +30,10 @@ Apart e = (k : ℕ) → Distinct (core_at e k).lines
 
 change_apart : (e : Engine) (i : ℕ) (o : Outcome) → i < length e.cores → Apart e → Distinct o.core.lines → Apart (change e i o)
 change_apart e i o b p f k =
-    elim (cases_eq k i) [ inl q ↦ rw (q, core_own e i o b) f | inr q ↦ rw (core_other e i k o q, struck_lines o.effect (core_at e k)) (p k) ]
+    elim (cases_eq k i) [
+      | inl q ↦ rw (q, core_own e i o b) f
+      | inr q ↦ rw (core_other e i k o q, after_lines o.effect (core_at e k)) (p k)
+    ]
 
 step_apart : (e : Engine) (i : ℕ) → Apart e → Apart (step e i).engine
 step_apart e i p k =

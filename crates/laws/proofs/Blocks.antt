@@ -9,6 +9,10 @@ use Rattle.model.specs.Blocks.{Move, Reads, Writes, At, touch}
 use Rattle.laws.proofs.Lines.{has_line_append, tagged_append}
 use Rattle.laws.proofs.Invariant.{Tracks}
 
+-- a block has just opened
+pub tracks_none : (i : ℕ) → Tracks i [] []
+tracks_none i = record { unhit = λ x. x; taken = λ a. grind arith; touched = λ a. grind arith }
+
 module _ (v : Move) (i : ℕ) (ls : List Line) (vs : List Move) (r : Tracks i ls vs) where
   -- another core's, that writes no word that is tagged
   pub tracks_other : i ≢ v.core → ((a w : ℕ) → v.effect ≡ Wrote a w → tagged ls a ≡ false) → Tracks i ls (v ∷ vs)

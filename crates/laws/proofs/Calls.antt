@@ -59,7 +59,9 @@ turn_kept :
 turn_kept r e e' t h = grind arith
 
 -- clear
-clear_kept : (token : Token) (e : Engine) (t : Trace) → e.token ≡ token → Inv e t → Inv (clear_if token e).engine (traced e (seen e Clear (Cleared (clear_if token e).answer)) t)
+clear_kept :
+    (token : Token) (e : Engine) (t : Trace) → e.token ≡ token → Inv e t →
+    Inv (clear_if token e).engine (traced e (seen e Clear (Cleared (clear_if token e).answer)) t)
 clear_kept Free e t f h = record {
   few = h.few;
   now = start_of e;

@@ -26,7 +26,7 @@ use Rattle.laws.proofs.Lines.{overlay, overlay_clean, overlay_after_write}
 use Rattle.laws.proofs.Invariant.{alone, Holder, Open, Matches, SentIs, Inv}
 use Rattle.laws.proofs.Keeps.{InvAfter, move, length_after}
 use Rattle.laws.proofs.Leaves.{Fine, finish_free, go_on}
-use Rattle.laws.proofs.Turns.{run_more, unit_from}
+use Rattle.laws.proofs.Turns.{from_now, run_more, unit_from}
 use Rattle.laws.proofs.Plain.{sent_more}
 
 -- writing a line sends nothing
@@ -54,7 +54,7 @@ module _ (e : Engine) (t : Trace) (h : Inv e t) (i : ℕ) (b : i < length e.core
     -- the next instruction of the block, alone
     run_on :
         (r : Decision) → decision_at e.program true (length e.memory) c.context c.depth c.count ≡ r →
-        run e.program (alone c.saved h.now.memory h.now.sent) (suc c.count) ≡ further c.depth (alone c.context (overlay c.lines e.memory) (mine own).0) r
+        run e.program (from_now h c.saved) (suc c.count) ≡ further c.depth (alone c.context (overlay c.lines e.memory) (mine own).0) r
     run_on r d = run_more e.program _ c e.memory (mine own).0 _ r (mine own).1.leads refl d
 
     -- a step that sends nothing leaves what is sent
@@ -69,8 +69,8 @@ module _ (e : Engine) (t : Trace) (h : Inv e t) (i : ℕ) (b : i < length e.core
     ending x from alive d m n =
         finish_free e t h i b action (resting Bypass (past c.context) c.saved) x Completed (suc c.count) Done (mine own).0
         (rw (own, eq-eqb i i refl) refl)
-        (record { alive = alive; is = rw (← m) (unit_from e t h i Completed (suc c.count) c.saved _ from (run_on _ d)) })
-        (silent x c Done n) (record { good = tt; known = refl })
+        (alive, rw (← m) (unit_from e t h i Completed (suc c.count) c.saved _ from (run_on _ d)))
+        (silent x c Done n) (tt, refl)
 
     -- the oldest dirty line is written, and the core comes to a state with lines
     turning :
@@ -92,7 +92,7 @@ module _ (e : Engine) (t : Trace) (h : Inv e t) (i : ℕ) (b : i < length e.core
       let d : decision_at e.program true (length e.memory) c.context c.depth c.count ≡ Ok Closes = rw st at (mine own).1.state in
       cond_both (any_dirty (after_write c.lines)) _ _ (InvAfter e t i action)
       (λ _. turning own Commit (after_write c.lines) Committing (rw st refl) (rw (length_after (next_write c.lines) e.memory) d)
-      (overlay_after_write c.lines e.memory) (record { good = own; known = unhit }))
+      (overlay_after_write c.lines e.memory) (own, unhit))
       (λ q. ending own (next_write c.lines) (rw st refl) (rw st refl) d (all_written c.lines e.memory q) (write_sends_nothing c.lines))
 
   -- EARLY_FLUSH
@@ -103,8 +103,8 @@ module _ (e : Engine) (t : Trace) (h : Inv e t) (i : ℕ) (b : i < length e.core
       cond_both (any_dirty (after_write c.lines)) (turned_to c EarlyFlush (after_write c.lines)) (turned_to c EarlyCommit [])
       (λ c'. InvAfter e t i action (acts (shared e) c' (next_write c.lines) Early))
       (λ _. turning own EarlyFlush (after_write c.lines) Early (rw st refl) tt (overlay_after_write c.lines e.memory)
-      (record { good = own; known = unhit }))
-      (λ q. turning own EarlyCommit [] Early (rw st refl) refl (sym (all_written c.lines e.memory q)) (record { good = own; known = unhit }))
+      (own, unhit))
+      (λ q. turning own EarlyCommit [] Early (rw st refl) refl (sym (all_written c.lines e.memory q)) (own, unhit))
 
   -- EARLY_COMMIT
   module _ (st : c.state ≡ EarlyCommit) where
@@ -125,32 +125,35 @@ module _ (e : Engine) (t : Trace) (h : Inv e t) (i : ℕ) (b : i < length e.core
     Comes r = decision_at e.program true (length e.memory) c.context c.depth c.count ≡ r
 
     -- the block's run with one more instruction, with no lines left
-    run_bare : (r : Decision) → Comes r → run e.program (alone c.saved h.now.memory h.now.sent) (suc c.count) ≡ further c.depth (alone c.context e.memory (mine own).0) r
+    run_bare :
+        (r : Decision) → Comes r →
+        run e.program (from_now h c.saved) (suc c.count) ≡ further c.depth (alone c.context e.memory (mine own).0) r
     run_bare r d = rw (bare e.memory) at (run_on own r d)
 
     -- the core performs an instruction of its block
     performs :
         (r : Decision) → Comes r → (x : Context) (depth : ℕ) (effect : Effect) →
-        further c.depth (alone c.context e.memory (mine own).0) r ≡ Inside depth (alone x (memory_after effect e.memory) ((mine own).0 ++ sent_by effect)) →
+        further c.depth (alone c.context e.memory (mine own).0) r
+        ≡ Inside depth (alone x (memory_after effect e.memory) ((mine own).0 ++ sent_by effect)) →
         InvAfter e t i action (acts (shared e) (performed c x depth c.lines) effect Running)
     performs r d x depth effect q =
         let o = acts (shared e) (performed c x depth c.lines) effect Running in
         go_on e t h i b action (performed c x depth c.lines) effect Running ((mine own).0 ++ sent_by effect) own (rw st refl)
         (record { state = rw st no_lines; leads = rw (bare (memory_after effect e.memory)) (run_bare r d ∙ q) })
         (sent_more e t i o (mine own).0 (mine own).2)
-        (record { good = rw st own; known = rw st (move i action o ∷ unhit.0, rw unhit.1 refl, λ w. grind (arith, unhit.2)) })
+        (rw st own, rw st (move i action o ∷ unhit.0, rw unhit.1 refl, λ w. grind (arith, unhit.2)))
 
     -- a step, by what the instruction comes to
     pub early_commit : (r : Decision) → Comes r → InvAfter e t i action (in_early_commit (shared e) i c r)
     early_commit (Err f) d =
         finish_free e t h i b action (resting Stopped c.context c.saved) Nothing Kept c.count (Faulted f c.context.pc) (mine own).0
         (rw (own, eq-eqb i i refl) refl)
-        (record { alive = rw st refl; is = unit_from e t h i Kept c.count c.saved _ (rw st refl) (run_bare (Err f) d) })
-        (silent own Nothing c Full refl) (record { good = tt; known = refl })
+        (rw st refl, unit_from e t h i Kept c.count c.saved _ (rw st refl) (run_bare (Err f) d))
+        (silent own Nothing c Full refl) (tt, refl)
     early_commit (Ok (Continues o)) d =
         cond_both (no_room (shared e) o) _ _ (InvAfter e t i action)
         (λ _. go_on e t h i b action c Nothing Full (mine own).0 own refl (mine own).1 (silent own Nothing c Full refl)
-        (record { good = h.good i; known = h.known i }))
+        (h.good i, h.known i))
         (λ _. performs (Ok (Continues o)) d (context_after o e.memory c.context) c.depth (effect_of o) refl)
     early_commit (Ok (Nests depth)) d = performs _ d (past c.context) depth Nothing (rw append-nil refl)
     early_commit (Ok Closes) d = ending own Nothing (rw st refl) (rw st refl) d (bare e.memory) refl

@@ -68,7 +68,8 @@ core_own e i o b =
 -- another core
 pub core_other : (e : Engine) (i k : ℕ) (o : Outcome) → k ≢ i → core_at (change e i o) k ≡ core_after o.effect (core_at e k)
 core_other e i k o ne =
-    grind (arith, after_blank, get_or-set_other (map (core_after o.effect) e.cores) i k o.core blank, get_or-map (core_after o.effect) e.cores k blank)
+    let old = get_or-map (core_after o.effect) e.cores k blank in
+    grind (arith, after_blank, old, get_or-set_other (map (core_after o.effect) e.cores) i k o.core blank)
 
 settle_map : (x : Effect) (cs : List Core) → map settle (map (core_after x) cs) ≡ map settle cs
 settle_map x [] = refl
@@ -115,7 +116,8 @@ aside_matches :
 aside_matches e t now machine i action o token x not_i m s w = grind (arith, core_other, append-nil {A = SentEntry})
 
 -- a step that pays what it owes keeps the invariant
-module _ (e : Engine) (t : Trace) (h : Inv e t) (i : ℕ) (action : Action) (o : Outcome) (b : i < length e.cores) (p : Step e t h i action o) where
+module _
+    (e : Engine) (t : Trace) (h : Inv e t) (i : ℕ) (action : Action) (o : Outcome) (b : i < length e.cores) (p : Step e t h i action o) where
   abbrev e' : Engine
   e' = change e i o
 

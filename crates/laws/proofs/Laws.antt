@@ -15,21 +15,23 @@ use Rattle.laws.proofs.RollBack.{roll_back_at}
 pub serial : Serial
 serial s m o cs n = grind (arith, always s m o cs)
 
-pub roll_back_lem : RollBack
-roll_back_lem s m o cs = roll_back_at (history s m o cs) (always s m o cs)
+pub roll_back : RollBack
+roll_back s m o cs = roll_back_at (history s m o cs) (always s m o cs)
 
-pub held_read_lem : HeldRead
-held_read_lem s m o cs a w p = grind (arith, nat_tests, (always s m o cs).held)
+pub held_read : HeldRead
+held_read s m o cs a w p = grind (arith, nat_tests, (always s m o cs).held)
 
 pub observed : Observed
 observed s m o cs c = grind (arith, append-nil {A = SentEntry})
 
-mores_plays : (cs : List Call) (r : Run) → (extended_by r cs).engine ≡ plays r.engine cs
-mores_plays [] r = refl
-mores_plays (c ∷ cs) r = mores_plays cs (extended r c)
+extended_plays : (cs : List Call) (r : Run) → (extended_by r cs).engine ≡ plays r.engine cs
+extended_plays [] r = refl
+extended_plays (c ∷ cs) r = extended_plays cs (extended r c)
 
 pub is_played : Played
-is_played s m o cs = mores_plays cs (fresh (make s m o))
+is_played s m o cs = extended_plays cs (fresh (make s m o))
 
 pub lawful : Laws
-lawful s m o cs n = record { serial = serial s m o (take n cs); roll_back = roll_back_lem s m o (take n cs); held_read = held_read_lem s m o (take n cs); observed = observed s m o (take n cs) }
+lawful s m o cs n =
+    let ds = take n cs in
+    record { serial = serial s m o ds; roll_back = roll_back s m o ds; held_read = held_read s m o ds; observed = observed s m o ds }

@@ -27,12 +27,15 @@ abbrev pub NoHolder : Engine → ℕ → Type 0
 NoHolder e i = Holder (core_at e i).state e.program e.memory (core_at e i) → ⊥
 
 -- what a unit's entry brings the machine to: the core elsewhere, this memory and these sent entries
-pub record UnitIs (e : Engine) (t : Trace) (h : Inv e t) (i : ℕ) (mark : Mark) (n : ℕ) (c : Core) (m : List ℕ) (s : List SentEntry) : Type 0 where
-  pub alive : settled_stopped (core_at e i).state ≡ false
-  pub is : unit_of e t h i mark n ≡ some (record { memory = m; sent = s; cores = set h.now.cores i (settle c) })
+abbrev pub UnitIs : (e : Engine) (t : Trace) → Inv e t → ℕ → Mark → ℕ → Core → List ℕ → List SentEntry → Type 0
+UnitIs e t h i mark n c m s =
+    (settled_stopped (core_at e i).state ≡ false)
+    × (unit_of e t h i mark n ≡ some (record { memory = m; sent = s; cores = set h.now.cores i (settle c) }))
 
 -- the token stays where it is when a core finishes that has it not
-freed_aside : (token : Token) (e : Engine) (t : Trace) (now : Machine) (i : ℕ) → NoHolder e i → Matches token e t now → freed token i ≡ token
+freed_aside :
+    (token : Token) (e : Engine) (t : Trace) (now : Machine) (i : ℕ) → NoHolder e i →
+    Matches token e t now → freed token i ≡ token
 freed_aside token e t now i not_i w = grind (arith, nat_tests)
 
 freed_quiet : (x : Effect) (token : Token) (i : ℕ) → freed token i ≡ Free → Quiet x token (freed token i) i
@@ -44,24 +47,27 @@ alone_quiet x token token' i f = grind (arith, f)
 
 module _ (e : Engine) (t : Trace) (h : Inv e t) (i : ℕ) (b : i < length e.cores) (action : Action) where
   -- what the core after a step owes
-  pub record Fine (o : Outcome) : Type 0 where
-    pub good : Good o.core.state e.program (memory_after o.effect e.memory) o.token i o.core
-    pub known : Known o.core.state i (own_move o.answer (move i action o) (block i t.moves)) o.core
+  abbrev pub Fine : Outcome → Type 0
+  Fine o =
+      Good o.core.state e.program (memory_after o.effect e.memory) o.token i o.core
+      × Known o.core.state i (own_move o.answer (move i action o) (block i t.moves)) o.core
 
   -- a core that is settled as before leaves the settled cores as they are
   same_cores : (c : Core) → settle c ≡ settle (core_at e i) → h.now.cores ≡ set h.now.cores i (settle c)
   same_cores c s = sym (set-get_or h.now.cores i no_core) ∙ ap (λ x. set h.now.cores i x) (core_settled e t h i ∙ sym s)
 
   -- what a step owes that adds nothing to the record: the machine stays
-  abbrev same_machine : (o : Outcome) → o.entries ≡ [] → settle o.core ≡ settle (core_at e i) → Quiet o.effect e.token o.token i → Fine o → Step e t h i action o
+  abbrev same_machine :
+      (o : Outcome) → o.entries ≡ [] → settle o.core ≡ settle (core_at e i) →
+      Quiet o.effect e.token o.token i → Fine o → Step e t h i action o
   same_machine o none s q f = record {
     quiet = q;
     machine = h.now;
     ran = rw (none, append-nil e.entries) h.ran;
     settled = same_cores o.core s;
     size = h.size;
-    good = f.good;
-    known = f.known;
+    good = f.0;
+    known = f.1;
   }
 
   -- what a step owes that finishes a unit
@@ -72,11 +78,11 @@ module _ (e : Engine) (t : Trace) (h : Inv e t) (i : ℕ) (b : i < length e.core
   unit_machine c x mark n answer m s u size q f = record {
     quiet = q;
     machine = record { memory = m; sent = s; cores = set h.now.cores i (settle c) };
-    ran = ran_more e t h i mark n _ b u.alive u.is;
+    ran = ran_more e t h i mark n _ b u.0 u.1;
     settled = refl;
     size = size;
-    good = f.good;
-    known = f.known;
+    good = f.0;
+    known = f.1;
   }
 
   -- only the core changes, and it is none that has the token
@@ -101,7 +107,8 @@ module _ (e : Engine) (t : Trace) (h : Inv e t) (i : ℕ) (b : i < length e.core
       SentIs (change e i (finishes (shared e) i c x mark n answer)) t s → Fine (finishes (shared e) i c x mark n answer) →
       InvAfter e t i action (finishes (shared e) i c x mark n answer)
   finish_free c x mark n answer s q u v f =
-      kept_own e t h i action _ b (unit_machine c x mark n answer _ s u (length_after x e.memory) (freed_quiet x e.token i q) f) (rw q (refl, v))
+      let p = unit_machine c x mark n answer _ s u (length_after x e.memory) (freed_quiet x e.token i q) f in
+      kept_own e t h i action _ b p (rw q (refl, v))
 
   -- a core that found the token free takes it
   pub take_token :

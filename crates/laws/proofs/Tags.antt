@@ -40,7 +40,9 @@ each_once (l ∷ ls) a d =
     grind (arith, nat_tests, each_once ls a, untagged ls a, sum_by-cons (λ x. cond (eqb x a) 1 0) l.address (tags ls))
 
 -- copying the tags in the order of the lines is one way
-copied : (ls : List Line) (before : List ℕ) → Distinct ls → length (tags ls) ≤ length before → TagsCopied ls before (tags ls ++ drop (length (tags ls)) before) (length (tags ls))
+copied :
+    (ls : List Line) (before : List ℕ) → Distinct ls → length (tags ls) ≤ length before →
+    TagsCopied ls before (tags ls ++ drop (length (tags ls)) before) (length (tags ls))
 copied ls before d fits = record {
   counted = refl;
   size = simp (length-append, length-drop) (omega arith);
@@ -49,12 +51,15 @@ copied ls before d fits = record {
 }
 
 -- tags can be served
-pub served : (e : Engine) (i : ℕ) (before : List ℕ) → Distinct (core_at e i).lines → (after : List ℕ) × (answer : Result ℕ TagsRefusal) × Tags e i before after answer
+pub served :
+    (e : Engine) (i : ℕ) (before : List ℕ) → Distinct (core_at e i).lines →
+    (after : List ℕ) × (answer : Result ℕ TagsRefusal) × Tags e i before after answer
 served e i before d =
     let ls = (core_at e i).lines in
+    let n = length (tags ls) in
     elim (cases_Bool (ltb i (length e.cores))) [
-      | inl t ↦ elim (cases_Bool (leb (length (tags ls)) (length before))) [
-        | inl u ↦ (tags ls ++ drop (length (tags ls)) before, Ok (length (tags ls)), rw (t, u) (length (tags ls), refl, copied ls before d (leb-true (length (tags ls)) (length before) u)))
+      | inl t ↦ elim (cases_Bool (leb n (length before))) [
+        | inl u ↦ (tags ls ++ drop n before, Ok n, rw (t, u) (n, refl, copied ls before d (leb-true n (length before) u)))
         | inr u ↦ (before, Err TooShort, rw (t, u) (refl, refl))
       ]
       | inr t ↦ (before, Err NoSuchCore, rw t (refl, refl))

@@ -5,9 +5,11 @@ use Rattle.std.proofs.lemmas.List.{append-nil}
 use Rattle.std.proofs.lemmas.Bool.Decides.{nat_tests}
 use Rattle.std.proofs.lemmas.Bool.{cond_both}
 use Rattle.answers.specs.declared.answer.Fault.{Fault}
+use Rattle.answers.specs.declared.answer.Answer.{Answer}
 use Rattle.answers.specs.declared.answer.Answer.TheVariants.{Running, Done, Committing, Early, Retried, Faulted}
 use Rattle.formats.specs.declared.entry.Mark.TheVariants.{Completed, Discarded}
 use Rattle.formats.specs.declared.entry.SentEntry.{SentEntry}
+use Rattle.model.specs.declared.state.State.{State}
 use Rattle.model.specs.declared.state.State.TheVariants.{Bypass, Transaction, Commit, EarlyFlush, EarlyCommit, Stopped}
 use Rattle.model.specs.declared.state.Token.TheVariants.{Free}
 use Rattle.model.specs.declared.context.Context.{Context}
@@ -21,17 +23,17 @@ use Rattle.model.specs.declared.line.Line.{Line}
 use Rattle.model.specs.Instructions.{Decision, outside, action_at, decision_at, with_reg, past}
 use Rattle.model.specs.OneAtATime.{Inside, operated, further, run}
 use Rattle.model.specs.Lines.{has_line, value_at, tagged, loaded_line, stored_line, store_at, any_dirty}
-use Rattle.model.specs.Cores.{Core, resting, turned_to, performed, rolled_back, takes_token, continued, faulted, early, closes, buffered, with_line, in_transaction}
+use Rattle.model.specs.Cores.{Core, settle, resting, turned_to, performed, rolled_back, takes_token, continued, faulted, early, closes, buffered, with_line, in_transaction}
 use Rattle.model.specs.Engine.{Engine, core_at, shared}
-use Rattle.model.specs.Blocks.{Move, Reads, Writes, Neither, touch, own_move, block, Hit}
+use Rattle.model.specs.Blocks.{Move, At, Reads, Writes, Neither, touch, own_move, block, Hit}
 use Rattle.model.specs.Traces.{Trace}
 use Rattle.laws.proofs.Lines.{overlay, overlay_append, overlay_clean, get_or_overlay, get_or_overlay_other, overlay_store_at}
 use Rattle.laws.proofs.Lines.{Fit, Fits, Agree, tagged_append, has_line_store_at, tagged_store_at, fit_append, fit_store_at, fit_agree}
-use Rattle.laws.proofs.Invariant.{alone, Follows, Good, Known, Tracks, Open, Inv}
+use Rattle.laws.proofs.Invariant.{alone, Holder, Follows, Good, Known, Tracks, Open, Inv}
 use Rattle.laws.proofs.Blocks.{tracks_same, tracks_new}
 use Rattle.laws.proofs.Keeps.{InvAfter, move}
-use Rattle.laws.proofs.Leaves.{NoHolder, only_core, finish_free, take_token}
-use Rattle.laws.proofs.Turns.{run_more, unit_from}
+use Rattle.laws.proofs.Leaves.{NoHolder, Fine, only_core, finish_free, take_token}
+use Rattle.laws.proofs.Turns.{from_now, run_more, unit_from}
 use Rattle.laws.proofs.Plain.{once_kept, when_free}
 use Rattle.laws.proofs.Decoding.{decoded, directly, directed}
 
@@ -52,7 +54,9 @@ module _ (e : Engine) (t : Trace) (h : Inv e t) (i : ℕ) (b : i < length e.core
   opened = rw st at (h.known i)
 
   -- with the token free: as many instructions alone on what the machine has
-  leads_now : e.token ≡ Free → run e.program (alone c.saved h.now.memory h.now.sent) c.count ≡ Inside c.depth (alone c.context (overlay c.lines e.memory) h.now.sent)
+  leads_now :
+      e.token ≡ Free →
+      run e.program (from_now h c.saved) c.count ≡ Inside c.depth (alone c.context (overlay c.lines e.memory) h.now.sent)
   leads_now f = rw (when_free e t h f).0 (follows.leads e.memory h.now.sent refl (λ a t. refl))
 
   -- what the instruction comes to
@@ -66,8 +70,9 @@ module _ (e : Engine) (t : Trace) (h : Inv e t) (i : ℕ) (b : i < length e.core
   leads_more r d m' s n agree =
       run_more e.program _ c m' s _ (directly r) (follows.leads m' s n agree) n (directed e.program _ _ _ _ r d)
 
-  now_more : (r : Decision) → Comes r → e.token ≡ Free →
-      run e.program (alone c.saved h.now.memory h.now.sent) (suc c.count) ≡ further c.depth (alone c.context (overlay c.lines e.memory) h.now.sent) (directly r)
+  now_more :
+      (r : Decision) → Comes r → e.token ≡ Free →
+      run e.program (from_now h c.saved) (suc c.count) ≡ further c.depth (alone c.context (overlay c.lines e.memory) h.now.sent) (directly r)
   now_more r d f = run_more e.program _ c e.memory h.now.sent _ (directly r) (leads_now f) refl (directed e.program _ _ _ _ r d)
 
   -- the move of an instruction that is performed
@@ -90,43 +95,54 @@ module _ (e : Engine) (t : Trace) (h : Inv e t) (i : ℕ) (b : i < length e.core
             leads_more r d m' s n agreed ∙ f m' s n agreed agree;
       } in
       only_core e t h i b action after Running not_i (rw st refl)
-      (record {
-        good = subst (λ s. Good s e.program e.memory e.token i after) (sym st) follows';
-        known = subst (λ s. Known s i (own_move Running ran (block i t.moves)) after) (sym st) (ran ∷ opened.0, rw opened.1 refl, tracks);
-      })
+      (subst (λ s. Good s e.program e.memory e.token i after × Known s i (own_move Running ran (block i t.moves)) after) (sym st)
+      (follows', (ran ∷ opened.0, rw opened.1 refl, tracks)))
 
-  -- the core takes the token to commit early
+  unhit : Open (block i t.moves) (λ vs. Hit i vs → ⊥)
+  unhit = (opened.0, opened.1, opened.2.unhit)
+
+  -- the core takes the token, and comes to a state with lines
+  taking :
+      (s : State) (ls : List Line) (answer : Answer) → e.token ≡ Free → settle (turned_to c s ls) ≡ settle c →
+      Holder s e.program e.memory (turned_to c s ls) → overlay ls e.memory ≡ overlay c.lines e.memory →
+      Fine e t h i b action (takes_token i (turned_to c s ls) answer) → InvAfter e t i action (takes_token i (turned_to c s ls) answer)
+  taking s ls answer f same holder q fine =
+      take_token e t h i b action (turned_to c s ls) answer f same (record { state = holder; leads = rw q (leads_now f) })
+      (when_free e t h f).1 fine
+
+  -- to commit early
   takes_early : InvAfter e t i action (early (shared e) i c)
   takes_early =
       once_kept e t h i b action _ not_i
-      (λ f. cond_both (any_dirty c.lines) (turned_to c EarlyFlush c.lines) (turned_to c EarlyCommit []) (λ c'. InvAfter e t i action (takes_token i c' Early))
-      (λ q. take_token e t h i b action (turned_to c EarlyFlush c.lines) Early f (rw st refl) (record { state = tt; leads = leads_now f }) (when_free e t h f).1 (record { good = refl; known = unhit }))
-      (λ q. take_token e t h i b action (turned_to c EarlyCommit []) Early f (rw st refl)
-      (record { state = refl; leads = rw (← (overlay_clean c.lines e.memory q)) (leads_now f) })
-      (when_free e t h f).1 (record { good = refl; known = unhit })))
-    where
-      unhit : Open (block i t.moves) (λ vs. Hit i vs → ⊥)
-      unhit = (opened.0, opened.1, opened.2.unhit)
+      (λ f. cond_both (any_dirty c.lines) (turned_to c EarlyFlush c.lines) (turned_to c EarlyCommit [])
+      (λ c'. InvAfter e t i action (takes_token i c' Early))
+      (λ q. taking EarlyFlush c.lines Early f (rw st refl) tt refl (refl, unhit))
+      (λ q. taking EarlyCommit [] Early f (rw st refl) refl (sym (overlay_clean c.lines e.memory q)) (refl, unhit)))
 
   -- the block faults, once the token is free
   faults : (f : Fault) → Comes (Err f) → InvAfter e t i action (in_transaction (shared e) i c (Err f))
   faults f d =
       once_kept e t h i b action (faulted (shared e) i c Discarded c.count f) not_i
-      (λ q. finish_free e t h i b action (resting Stopped c.context c.saved) Nothing Discarded c.count (Faulted f c.context.pc) h.now.sent (rw q refl)
-      (record { alive = rw st refl; is = rw (← (when_free e t h q).0) (unit_from e t h i Discarded c.count c.saved _ (rw st refl) (now_more _ d q)) })
-      (rw append-nil (when_free e t h q).1) (record { good = tt; known = refl }))
+      (λ q. finish_free e t h i b action (resting Stopped c.context c.saved) Nothing Discarded c.count (Faulted f c.context.pc) h.now.sent
+      (rw q refl) (rw st refl, rw (← (when_free e t h q).0) (unit_from e t h i Discarded c.count c.saved _ (rw st refl) (now_more _ d q)))
+      (rw append-nil (when_free e t h q).1) (tt, refl))
 
   -- the block ends, or goes to write its lines
   ending : Comes (Ok Closes) → InvAfter e t i action (in_transaction (shared e) i c (Ok Closes))
   ending d =
       once_kept e t h i b action (closes (shared e) i c) not_i
       (λ q. cond_both (any_dirty c.lines) _ _ (InvAfter e t i action)
-      (λ _. take_token e t h i b action (turned_to c Commit c.lines) Committing q (rw st refl)
-      (record { state = directed e.program _ _ _ _ _ d; leads = leads_now q }) (when_free e t h q).1
-      (record { good = refl; known = (opened.0, opened.1, opened.2.unhit) }))
-      (λ clean. finish_free e t h i b action (resting Bypass (past c.context) c.saved) Nothing Completed (suc c.count) Done h.now.sent (rw q refl)
-      (record { alive = rw st refl; is = rw (← (overlay_clean c.lines e.memory clean)) (unit_from e t h i Completed (suc c.count) c.saved _ (rw st refl) (now_more _ d q)) })
-      (rw append-nil (when_free e t h q).1) (record { good = tt; known = refl })))
+      (λ _. taking Commit c.lines Committing q (rw st refl) (directed e.program _ _ _ _ _ d) refl (refl, unhit))
+      (λ clean. finish_free e t h i b action (resting Bypass (past c.context) c.saved) Nothing Completed (suc c.count) Done h.now.sent
+      (rw q refl) (rw st refl, rw (← (overlay_clean c.lines e.memory clean)) (unit_from e t h i Completed (suc c.count) c.saved _ (rw st refl) (now_more _ d q)))
+      (rw append-nil (when_free e t h q).1) (tt, refl)))
+
+  -- a word that is in a line is touched
+  tracks_held :
+      (ls : List Line) → ((q : ℕ) → tagged ls q ≡ tagged c.lines q) → ((q : ℕ) → has_line ls q ≡ has_line c.lines q) → (a : ℕ) →
+      has_line c.lines a ≡ true → ((q : ℕ) → At (touch action) q → a ≡ q) → Tracks i ls (ran ∷ opened.0)
+  tracks_held ls tag line a held at =
+      tracks_same ran i c.lines opened.0 opened.2 refl ls tag line (λ q p. rw (← (at q p)) held)
 
   -- one that touches no word and leaves the lines as they are
   aside : (r : Decision) → Comes r → (x : Context) (depth : ℕ) → touch action ≡ Neither →
@@ -151,12 +167,14 @@ module _ (e : Engine) (t : Trace) (h : Inv e t) (i : ℕ) (b : i < length e.core
       (λ _. takes_early)
 
   -- an operation
-  operation : (o : Operation) → Comes (Ok (Continues o)) → action ≡ Performs o → outside (length e.memory) o ≡ false → InvAfter e t i action (buffered (shared e) i c o)
+  operation :
+      (o : Operation) → Comes (Ok (Continues o)) → action ≡ Performs o → outside (length e.memory) o ≡ false →
+      InvAfter e t i action (buffered (shared e) i c o)
   operation (Loads a k) d is within =
       let w = get_or e.memory a 0 in
       cond_both (has_line c.lines a) _ _ (InvAfter e t i action)
       (λ held. runs_on _ d (with_reg c.context k (value_at c.lines a)) c.depth c.lines follows.fit (λ q tag. tag)
-      (tracks_same ran i c.lines opened.0 opened.2 refl c.lines (λ q. refl) (λ q. refl) (λ q p. let same : a ≡ q = rw is at p in rw (← same) held))
+      (tracks_held c.lines (λ q. refl) (λ q. refl) a held (λ q p. rw is at p))
       (λ m' s n old _. rw (append-nil s, get_or_overlay c.lines m' a (fit_agree c.lines e.memory m' follows.fit n old) held) refl))
       (λ absent. new_line (Loads a k) d (with_reg c.context k w) (loaded_line a w)
       (record { inside = grind (arith, nat_tests); clean = λ _. (refl, refl) }) (rw is refl) absent
@@ -165,8 +183,9 @@ module _ (e : Engine) (t : Trace) (h : Inv e t) (i : ℕ) (b : i < length e.core
       rw (append-nil s, get_or_overlay_other c.lines m' a absent, here, overlay_append c.lines (loaded_line a w) m') refl))
   operation (Stores a w) d is within =
       cond_both (has_line c.lines a) _ _ (InvAfter e t i action)
-      (λ held. runs_on _ d (past c.context) c.depth (store_at c.lines a w) (fit_store_at c.lines a w e.memory follows.fit) (λ q tag. tagged_store_at c.lines a w q ∙ tag)
-      (tracks_same ran i c.lines opened.0 opened.2 refl (store_at c.lines a w) (tagged_store_at c.lines a w) (has_line_store_at c.lines a w) (λ q p. let same : a ≡ q = rw is at p in rw (← same) held))
+      (λ held. runs_on _ d (past c.context) c.depth (store_at c.lines a w) (fit_store_at c.lines a w e.memory follows.fit)
+      (λ q tag. tagged_store_at c.lines a w q ∙ tag)
+      (tracks_held (store_at c.lines a w) (tagged_store_at c.lines a w) (has_line_store_at c.lines a w) a held (λ q p. rw is at p))
       (λ m' s n old _. rw (append-nil s, overlay_store_at c.lines m' a w (fit_agree c.lines e.memory m' follows.fit n old) held) refl))
       (λ absent. new_line (Stores a w) d (past c.context) (stored_line a w)
       (record { inside = grind (arith, nat_tests); clean = λ dirty. cc }) (rw is refl) absent
@@ -181,5 +200,5 @@ module _ (e : Engine) (t : Trace) (h : Inv e t) (i : ℕ) (b : i < length e.core
   transaction (Ok (Continues o)) d = let says = decoded e.program _ _ _ _ _ d in operation o d says.0 says.1
   transaction (Ok (Nests depth)) d = aside _ d (past c.context) depth (decoded e.program _ _ _ _ _ d) (λ m' s. refl)
   transaction (Ok Closes) d = ending d
-  transaction (Ok Restarts) d = only_core e t h i b action (rolled_back c) Retried not_i (rw st refl) (record { good = tt; known = refl })
+  transaction (Ok Restarts) d = only_core e t h i b action (rolled_back c) Retried not_i (rw st refl) (tt, refl)
   transaction (Ok TakesToken) d = takes_early

@@ -36,6 +36,10 @@ bounded : (program : List Instruction) (s : Alone) (n : ℕ) → Bounded (run pr
 bounded program s zero = refl
 bounded program s (suc n) = one_more program (run program s n) n (bounded program s n)
 
+-- a context alone, on what the machine has
+abbrev pub from_now : {e : Engine} {t : Trace} → Inv e t → Context → Alone
+from_now h x = alone x h.now.memory h.now.sent
+
 -- one more instruction of a block, by what it comes to
 pub run_more :
     (program : List Instruction) (s : Alone) (c : Core) (m : List ℕ) (sent : List SentEntry) (words : ℕ) (r : Decision) →
@@ -45,7 +49,8 @@ pub run_more :
 run_more program s c m sent words r p n d = rw (p, length_overlay c.lines m, n, d) refl
 
 counted :
-    (m m' : Machine) (i : ℕ) (mark : Mark) (n : ℕ) (p : Progress) → Bounded p (looked_at mark n) → unit m i mark p ≡ some m' → n ≤ MOST_PERFORMED
+    (m m' : Machine) (i : ℕ) (mark : Mark) (n : ℕ) (p : Progress) → Bounded p (looked_at mark n) → unit m i mark p ≡ some m' →
+    n ≤ MOST_PERFORMED
 counted m m' i mark n p h q = grind arith
 
 runs_append :
@@ -61,11 +66,11 @@ core_settled e t h i = rw h.settled (get_or-map settle e.cores i blank)
 -- a core's unit, from where the core is settled
 abbrev pub unit_of : (e : Engine) (t : Trace) → Inv e t → ℕ → Mark → ℕ → Option Machine
 unit_of e t h i mark n =
-    unit h.now i mark (run e.program (alone (settled_context (core_at e i).state (core_at e i)) h.now.memory h.now.sent) (looked_at mark n))
+    unit h.now i mark (run e.program (from_now h (settled_context (core_at e i).state (core_at e i))) (looked_at mark n))
 
 pub unit_from :
     (e : Engine) (t : Trace) (h : Inv e t) (i : ℕ) (mark : Mark) (n : ℕ) (x : Context) (p : Progress) →
-    settled_context (core_at e i).state (core_at e i) ≡ x → run e.program (alone x h.now.memory h.now.sent) (looked_at mark n) ≡ p →
+    settled_context (core_at e i).state (core_at e i) ≡ x → run e.program (from_now h x) (looked_at mark n) ≡ p →
     unit_of e t h i mark n ≡ unit h.now i mark p
 unit_from e t h i mark n x p from is = rw (from, is) refl
 
