@@ -25,6 +25,8 @@ use Rattle.model.specs.Runs.{event, seen, played}
 use Rattle.model.specs.declared.call.Reply.TheVariants.{Stepped, Cleared}
 use Rattle.model.specs.Traces.{Trace, Run, new_trace, start_of, traced, extended, extended_by, fresh, history}
 use Rattle.laws.proofs.Invariant.{Good, Known, Inv}
+use Rattle.model.specs.Lines.{Distinct}
+use Rattle.laws.proofs.Apart.{Apart, call_apart}
 use Rattle.laws.proofs.Keeps.{InvAfter}
 use Rattle.laws.proofs.Plain.{stopped, aborted, bypass}
 use Rattle.laws.proofs.Transaction.{transaction}
@@ -84,17 +86,20 @@ call_kept e t h (Read a) = h
 call_kept e t h _ = grind (arith, append_assoc {A = SentEntry})
 
 -- every list of calls
-calls_kept : (cs : List Call) (r : Run) → Inv r.engine r.trace → Inv (extended_by r cs).engine (extended_by r cs).trace
+calls_kept :
+    (cs : List Call) (r : Run) → Inv r.engine r.trace × Apart r.engine →
+    Inv (extended_by r cs).engine (extended_by r cs).trace × Apart (extended_by r cs).engine
 calls_kept [] r h = h
-calls_kept (c ∷ cs) r h = calls_kept cs (extended r c) (call_kept r.engine r.trace h c)
+calls_kept (c ∷ cs) r h = calls_kept cs (extended r c) (call_kept r.engine r.trace h.0 c, call_apart r.engine c h.1)
 
 -- a new engine's cores
 new_good :
     (r : Result (Unit {0}) CheckRefusal) (places : List ℕ) (program : List Instruction) (m : List ℕ) (k i : ℕ) →
     Good (get_or (new_cores r places) k blank).state program m Free i (get_or (new_cores r places) k blank)
     × Known (get_or (new_cores r places) k blank).state i none (get_or (new_cores r places) k blank)
+    × Distinct (get_or (new_cores r places) k blank).lines
 new_good (Ok u) (x ∷ xs) program m (suc k) i = new_good (Ok u) xs program m k i
-new_good _ _ program m k i = (tt, refl)
+new_good _ _ program m k i = (tt, refl, tt)
 
 -- they are few
 new_few : (s : Settings) (m : List ℕ) → length (new_cores (check s (length m)) s.places) ≤ MOST_CORES
@@ -114,6 +119,8 @@ made s m o = record {
   held = tt;
 }
 
--- the invariant holds of every run
-pub always : (s : Settings) (m : List ℕ) (o : Outlet) (cs : List Call) → Inv (history s m o cs).engine (history s m o cs).trace
-always s m o cs = calls_kept cs (fresh (make s m o)) (made s m o)
+-- the invariant holds of every run, and the lines of each core are at different addresses
+pub always :
+    (s : Settings) (m : List ℕ) (o : Outlet) (cs : List Call) →
+    Inv (history s m o cs).engine (history s m o cs).trace × Apart (history s m o cs).engine
+always s m o cs = calls_kept cs (fresh (make s m o)) (made s m o, λ k. (new_good (check s (length m)) s.places s.program m k k).2)

@@ -19,8 +19,7 @@ Says (Err f) words a = Unit {0}
 
 pub decoded :
     (program : List Instruction) (words : ℕ) (x : Context) (depth count : ℕ) (r : Decision) →
-    decision_at program false words x depth count ≡ r →
-    Says r words (action_at program x)
+    decision_at program false words x depth count ≡ r → Says r words (action_at program x)
 unfolding decision_at
 decoded program words x depth count r d = grind (arith, nat_tests)
 
@@ -31,7 +30,6 @@ directly r = r
 
 pub directed :
     (program : List Instruction) (words : ℕ) (x : Context) (depth count : ℕ) (r : Decision) →
-    decision_at program false words x depth count ≡ r →
-    decision_at program true words x depth count ≡ directly r
+    decision_at program false words x depth count ≡ r → decision_at program true words x depth count ≡ directly r
 unfolding decision_at
 directed program words x depth count r d = grind (arith, nat_tests)

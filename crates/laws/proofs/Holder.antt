@@ -132,8 +132,7 @@ module _ (e : Engine) (t : Trace) (h : Inv e t) (i : ℕ) (b : i < length e.core
 
     -- the core performs an instruction of its block
     performs :
-        (r : Decision) → Comes r → (x : Context) (depth : ℕ) (effect : Effect) →
-        further c.depth (alone c.context e.memory (mine own).0) r
+        (r : Decision) → Comes r → (x : Context) (depth : ℕ) (effect : Effect) → further c.depth (alone c.context e.memory (mine own).0) r
         ≡ Inside depth (alone x (memory_after effect e.memory) ((mine own).0 ++ sent_by effect)) →
         InvAfter e t i action (acts (shared e) (performed c x depth c.lines) effect Running)
     performs r d x depth effect q =

@@ -62,8 +62,7 @@ after_blank _ = refl
 
 -- the core that made the step
 pub core_own : (e : Engine) (i : ℕ) (o : Outcome) → i < length e.cores → core_at (change e i o) i ≡ o.core
-core_own e i o b =
-    get_or-set_same (map (core_after o.effect) e.cores) i o.core blank (rw (length-map e.cores (core_after o.effect)) b)
+core_own e i o b = get_or-set_same (map (core_after o.effect) e.cores) i o.core blank (rw (length-map e.cores (core_after o.effect)) b)
 
 -- another core
 pub core_other : (e : Engine) (i k : ℕ) (o : Outcome) → k ≢ i → core_at (change e i o) k ≡ core_after o.effect (core_at e k)

@@ -8,18 +8,19 @@ use Rattle.model.specs.declared.call.Call.{Call}
 use Rattle.model.specs.Engine.{make}
 use Rattle.model.specs.Runs.{plays}
 use Rattle.model.specs.Traces.{Run, extended, extended_by, fresh, history}
-use Rattle.model.specs.Laws.{Serial, RollBack, HeldRead, Observed, Played, Laws}
+use Rattle.model.specs.Laws.{Serial, RollBack, HeldRead, Observed, Played, TagsServed, Laws}
 use Rattle.laws.proofs.Calls.{always}
+use Rattle.laws.proofs.Tags.{served}
 use Rattle.laws.proofs.RollBack.{roll_back_at}
 
 pub serial : Serial
-serial s m o cs n = grind (arith, always s m o cs)
+serial s m o cs n = grind (arith, (always s m o cs).0)
 
 pub roll_back : RollBack
-roll_back s m o cs = roll_back_at (history s m o cs) (always s m o cs)
+roll_back s m o cs = roll_back_at (history s m o cs) (always s m o cs).0
 
 pub held_read : HeldRead
-held_read s m o cs a w p = grind (arith, nat_tests, (always s m o cs).held)
+held_read s m o cs a w p = grind (arith, nat_tests, (always s m o cs).0.held)
 
 pub observed : Observed
 observed s m o cs c = grind (arith, append-nil {A = SentEntry})
@@ -30,6 +31,11 @@ extended_plays (c ∷ cs) r = extended_plays cs (extended r c)
 
 pub is_played : Played
 is_played s m o cs = extended_plays cs (fresh (make s m o))
+
+pub tags_served : TagsServed
+tags_served s m o cs i before =
+    let d = (always s m o cs).1 i in
+    (d, served (history s m o cs).engine i before d)
 
 pub lawful : Laws
 lawful s m o cs n =

@@ -34,8 +34,7 @@ UnitIs e t h i mark n c m s =
 
 -- the token stays where it is when a core finishes that has it not
 freed_aside :
-    (token : Token) (e : Engine) (t : Trace) (now : Machine) (i : ℕ) → NoHolder e i →
-    Matches token e t now → freed token i ≡ token
+    (token : Token) (e : Engine) (t : Trace) (now : Machine) (i : ℕ) → NoHolder e i → Matches token e t now → freed token i ≡ token
 freed_aside token e t now i not_i w = grind (arith, nat_tests)
 
 freed_quiet : (x : Effect) (token : Token) (i : ℕ) → freed token i ≡ Free → Quiet x token (freed token i) i

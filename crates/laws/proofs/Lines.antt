@@ -1,6 +1,6 @@
 -- Lines laid over a memory: what a block's buffer makes of the memory that it reads.
 -- Assumes nothing.
-use Rattle.std.proofs.Common.{◌≡◌, ℕ, ◌<◌, true, false, cond, ◌&&◌, ◌||◌, eqb, List, [], ◌∷◌, ◌++◌, length, get_or, set, refl, ◌∙◌, arith}
+use Rattle.std.proofs.Common.{◌≡◌, ℕ, ◌<◌, true, false, cond, ◌&&◌, ◌||◌, eqb, List, [], ◌∷◌, ◌++◌, length, get_or, set, refl, arith}
 use Rattle.std.proofs.lemmas.List.{length-set, get_or-set_same, get_or-set_other, set-set, set_comm}
 use Rattle.std.proofs.lemmas.Bool.Decides.{nat_tests}
 use Rattle.model.specs.declared.line.Line.{Line}
@@ -17,12 +17,9 @@ abbrev pub overlay : List Line → List ℕ → List ℕ
 overlay [] m = m
 overlay (l ∷ ls) m = overlay ls (laid l m)
 
-length_laid : (l : Line) (m : List ℕ) → length (laid l m) ≡ length m
-length_laid l m = grind (arith, length-set {A = ℕ})
-
 pub length_overlay : (ls : List Line) (m : List ℕ) → length (overlay ls m) ≡ length m
 length_overlay [] m = refl
-length_overlay (l ∷ ls) m = length_overlay ls (laid l m) ∙ length_laid l m
+length_overlay (l ∷ ls) m = grind (arith, length_overlay ls (laid l m), length-set {A = ℕ})
 
 pub overlay_append : (ls : List Line) (l : Line) (m : List ℕ) → overlay (ls ++ l ∷ []) m ≡ laid l (overlay ls m)
 overlay_append [] l m = refl
@@ -59,13 +56,10 @@ Fit m (l ∷ ls) = Fits m l × (has_line ls l.address ≡ false) × Fit m ls
 abbrev pub Agree : List Line → List ℕ → List ℕ → Type 0
 Agree ls m m' = (a : ℕ) → tagged ls a ≡ true → get_or m' a 0 ≡ get_or m a 0
 
-fits_set : (m : List ℕ) (l : Line) (a w : ℕ) → Fits m l → (eqb l.address a && l.tag) ≡ false → Fits (set m a w) l
-fits_set m l a w f h = grind (arith, nat_tests, length-set {A = ℕ}, get_or-set_other {A = ℕ})
-
 -- a write where no line is tagged leaves the lines fitting
 pub fit_set : (ls : List Line) (m : List ℕ) (a w : ℕ) → Fit m ls → tagged ls a ≡ false → Fit (set m a w) ls
 fit_set [] m a w f h = tt
-fit_set (l ∷ ls) m a w f h = grind (arith, fits_set m l a w, fit_set ls m a w)
+fit_set (l ∷ ls) m a w f h = grind (arith, nat_tests, length-set {A = ℕ}, get_or-set_other {A = ℕ}, fit_set ls m a w)
 
 fit_laid : (l : Line) (ls : List Line) (m : List ℕ) → Fit m (l ∷ ls) → Fit (laid l m) ls
 fit_laid l ls m f = grind (arith, fit_set ls m l.address l.value, untagged ls l.address)

@@ -37,10 +37,8 @@ free_is token h = grind arith
 
 -- what a step sends is sent after what was sent
 pub sent_more :
-    (e : Engine) (t : Trace) (i : ℕ) (o : Outcome) (s : List SentEntry) → SentIs e t s →
-    SentIs (change e i o) t (s ++ sent_by o.effect)
-sent_more e t i o s p =
-    rw (← append_assoc t.taken e.outlet.waiting (sent_by o.effect), p) (append_assoc t.waiting s (sent_by o.effect))
+    (e : Engine) (t : Trace) (i : ℕ) (o : Outcome) (s : List SentEntry) → SentIs e t s → SentIs (change e i o) t (s ++ sent_by o.effect)
+sent_more e t i o s p = rw (← append_assoc t.taken e.outlet.waiting (sent_by o.effect), p) (append_assoc t.waiting s (sent_by o.effect))
 
 module _ (e : Engine) (t : Trace) (h : Inv e t) (i : ℕ) (b : i < length e.cores) (action : Action) where
   abbrev c : Core
@@ -83,8 +81,7 @@ module _ (e : Engine) (t : Trace) (h : Inv e t) (i : ℕ) (b : i < length e.core
         (s : State) (x : Context) → Fine e t h i b action (plain (shared e) i c s x Nothing) →
         first here (action_at e.program c.context) ≡ Whole (settled_stopped s) (record here { context = settled_context s (resting s x c.saved) }) →
         InvAfter e t i action (plain (shared e) i c s x Nothing)
-    aside s x fine q =
-        finish_aside e t h i b action (resting s x c.saved) Completed 1 Done not_i (rw st refl, rw (st, q) refl) fine
+    aside s x fine q = finish_aside e t h i b action (resting s x c.saved) Completed 1 Done not_i (rw st refl, rw (st, q) refl) fine
 
     -- an operation with the token free
     operation :

@@ -36,8 +36,7 @@ distinct_after_write (l ∷ ls) d = grind (arith, has_line_after_write ls l.addr
 
 each_once : (ls : List Line) (a : ℕ) → Distinct ls → count_by (λ x. eqb x a) (tags ls) ≡ cond (tagged ls a) 1 0
 each_once [] a d = refl
-each_once (l ∷ ls) a d =
-    grind (arith, nat_tests, each_once ls a, untagged ls a, sum_by-cons (λ x. cond (eqb x a) 1 0) l.address (tags ls))
+each_once (l ∷ ls) a d = grind (arith, nat_tests, each_once ls a, untagged ls a, sum_by-cons (λ x. cond (eqb x a) 1 0) l.address (tags ls))
 
 -- copying the tags in the order of the lines is one way
 copied :

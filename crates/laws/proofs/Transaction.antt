@@ -55,8 +55,7 @@ module _ (e : Engine) (t : Trace) (h : Inv e t) (i : ℕ) (b : i < length e.core
 
   -- with the token free: as many instructions alone on what the machine has
   leads_now :
-      e.token ≡ Free →
-      run e.program (from_now h c.saved) c.count ≡ Inside c.depth (alone c.context (overlay c.lines e.memory) h.now.sent)
+      e.token ≡ Free → run e.program (from_now h c.saved) c.count ≡ Inside c.depth (alone c.context (overlay c.lines e.memory) h.now.sent)
   leads_now f = rw (when_free e t h f).0 (follows.leads e.memory h.now.sent refl (λ a t. refl))
 
   -- what the instruction comes to
@@ -67,8 +66,7 @@ module _ (e : Engine) (t : Trace) (h : Inv e t) (i : ℕ) (b : i < length e.core
   leads_more :
       (r : Decision) → Comes r → (m' : List ℕ) (s : List SentEntry) → length m' ≡ length e.memory → Agree c.lines e.memory m' →
       run e.program (alone c.saved m' s) (suc c.count) ≡ further c.depth (alone c.context (overlay c.lines m') s) (directly r)
-  leads_more r d m' s n agree =
-      run_more e.program _ c m' s _ (directly r) (follows.leads m' s n agree) n (directed e.program _ _ _ _ r d)
+  leads_more r d m' s n agree = run_more e.program _ c m' s _ (directly r) (follows.leads m' s n agree) n (directed e.program _ _ _ _ r d)
 
   now_more :
       (r : Decision) → Comes r → e.token ≡ Free →
@@ -141,8 +139,7 @@ module _ (e : Engine) (t : Trace) (h : Inv e t) (i : ℕ) (b : i < length e.core
   tracks_held :
       (ls : List Line) → ((q : ℕ) → tagged ls q ≡ tagged c.lines q) → ((q : ℕ) → has_line ls q ≡ has_line c.lines q) → (a : ℕ) →
       has_line c.lines a ≡ true → ((q : ℕ) → At (touch action) q → a ≡ q) → Tracks i ls (ran ∷ opened.0)
-  tracks_held ls tag line a held at =
-      tracks_same ran i c.lines opened.0 opened.2 refl ls tag line (λ q p. rw (← (at q p)) held)
+  tracks_held ls tag line a held at = tracks_same ran i c.lines opened.0 opened.2 refl ls tag line (λ q p. rw (← (at q p)) held)
 
   -- one that touches no word and leaves the lines as they are
   aside : (r : Decision) → Comes r → (x : Context) (depth : ℕ) → touch action ≡ Neither →

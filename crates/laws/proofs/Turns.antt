@@ -13,7 +13,7 @@ use Rattle.formats.specs.declared.instruction.Instruction.{Instruction}
 use Rattle.formats.specs.Records.{entry}
 use Rattle.model.specs.Instructions.{Decision, decision_at}
 use Rattle.model.specs.declared.context.Context.{Context}
-use Rattle.model.specs.OneAtATime.{Alone, Machine, Progress, Fresh, Inside, Whole, Faults, Impossible, further, after_one_more, no_core, run, unit, looked_at, turn, and_then, runs}
+use Rattle.model.specs.OneAtATime.{Alone, Machine, Progress, Fresh, Inside, Whole, Faults, Impossible, further, no_core, run, unit, looked_at, turn, and_then, runs}
 use Rattle.model.specs.Cores.{Core, settle, settled_stopped, settled_context}
 use Rattle.model.specs.Engine.{Engine, core_at, blank}
 use Rattle.model.specs.Traces.{Trace}
@@ -28,13 +28,10 @@ Bounded (Whole b s) n = n ≤ MOST_PERFORMED
 Bounded (Faults s) n = n ≤ suc MOST_PERFORMED
 Bounded Impossible n = Unit {0}
 
-one_more : (program : List Instruction) (p : Progress) (n : ℕ) → Bounded p n → Bounded (after_one_more program n p) (suc n)
-unfolding decision_at
-one_more program p n h = grind (arith, nat_tests)
-
 bounded : (program : List Instruction) (s : Alone) (n : ℕ) → Bounded (run program s n) n
+unfolding decision_at
 bounded program s zero = refl
-bounded program s (suc n) = one_more program (run program s n) n (bounded program s n)
+bounded program s (suc n) = grind (arith, nat_tests, bounded program s n)
 
 -- a context alone, on what the machine has
 abbrev pub from_now : {e : Engine} {t : Trace} → Inv e t → Context → Alone
