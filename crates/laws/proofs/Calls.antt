@@ -44,15 +44,11 @@ state_kept EarlyFlush e t h i b st = early_flush e t h i b _ st
 state_kept EarlyCommit e t h i b st = early_commit e t h i b _ st _ refl
 state_kept Stopped e t h i b st = stopped e t h i b _ st
 
--- a step that is not refused
-stepped_kept :
-    (e : Engine) (t : Trace) (h : Inv e t) (i : ℕ) → i < length e.cores →
-    InvAfter e t i (action_at e.program (core_at e i).context) (outcome_of e i)
-stepped_kept e t h i b = state_kept (core_at e i).state e t h i b refl
-
 -- step
 step_kept : (e : Engine) (t : Trace) (h : Inv e t) (i : ℕ) → Inv (step e i).engine (traced e (event e (Step i)) t)
-step_kept e t h i = grind (arith, nat_tests, stepped_kept e t h i)
+step_kept e t h i =
+    let kept : i < length e.cores → InvAfter e t i (action_at e.program (core_at e i).context) (outcome_of e i) = λ b. state_kept _ e t h i b refl in
+    grind (arith, nat_tests, kept)
 
 -- a turn: the core that is next is no matter
 turn_kept :

@@ -19,13 +19,13 @@ use Rattle.model.specs.Instructions.{Decision, decision_at, past, context_after,
 use Rattle.model.specs.OneAtATime.{Inside, further, run}
 use Rattle.model.specs.Lines.{any_dirty, next_write, after_write}
 use Rattle.model.specs.Cores.{Core, settle, resting, turned_to, performed, settled_context, settled_stopped, acts, no_room, ends, in_commit, in_early_flush, in_early_commit}
-use Rattle.model.specs.Engine.{Engine, core_at, shared, change}
+use Rattle.model.specs.Engine.{Engine, core_at, shared}
 use Rattle.model.specs.Blocks.{block, Hit}
 use Rattle.model.specs.Traces.{Trace}
 use Rattle.laws.proofs.Lines.{overlay, overlay_clean, overlay_after_write}
-use Rattle.laws.proofs.Invariant.{alone, Holder, Open, Matches, SentIs, Inv}
-use Rattle.laws.proofs.Keeps.{InvAfter, move, length_after}
-use Rattle.laws.proofs.Leaves.{Fine, finish_free, go_on}
+use Rattle.laws.proofs.Invariant.{alone, Holder, Open, Matches, Inv}
+use Rattle.laws.proofs.Keeps.{Fine, InvAfter, move, length_after}
+use Rattle.laws.proofs.Leaves.{SentWith, finish_free, go_on}
 use Rattle.laws.proofs.Turns.{from_now, run_more, unit_from}
 use Rattle.laws.proofs.Plain.{sent_more}
 
@@ -58,8 +58,8 @@ module _ (e : Engine) (t : Trace) (h : Inv e t) (i : ℕ) (b : i < length e.core
     run_on r d = run_more e.program _ c e.memory (mine own).0 _ r (mine own).1.leads refl d
 
     -- a step that sends nothing leaves what is sent
-    silent : (x : Effect) (o : Core) (answer : Answer) → sent_by x ≡ [] → SentIs (change e i (acts (shared e) o x answer)) t (mine own).0
-    silent x o answer n = rw (n, append-nil e.outlet.waiting) (mine own).2
+    silent : (x : Effect) → sent_by x ≡ [] → SentWith x e t (mine own).0
+    silent x n = rw (n, append-nil e.outlet.waiting) (mine own).2
 
     -- the block ends with a last effect that writes what is still dirty
     ending :
@@ -70,19 +70,19 @@ module _ (e : Engine) (t : Trace) (h : Inv e t) (i : ℕ) (b : i < length e.core
         finish_free e t h i b action (resting Bypass (past c.context) c.saved) x Completed (suc c.count) Done (mine own).0
         (rw (own, eq-eqb i i refl) refl)
         (alive, rw (← m) (unit_from e t h i Completed (suc c.count) c.saved _ from (run_on _ d)))
-        (silent x c Done n) (tt, refl)
+        (silent x n) (tt, refl)
 
     -- the oldest dirty line is written, and the core comes to a state with lines
     turning :
         (s : State) (ls : List Line) (answer : Answer) → settle (turned_to c s ls) ≡ settle c →
         Holder s e.program (memory_after (next_write c.lines) e.memory) (turned_to c s ls) →
         overlay ls (memory_after (next_write c.lines) e.memory) ≡ overlay c.lines e.memory →
-        Fine e t h i b action (acts (shared e) (turned_to c s ls) (next_write c.lines) answer) →
+        Fine e t i action (acts (shared e) (turned_to c s ls) (next_write c.lines) answer) →
         InvAfter e t i action (acts (shared e) (turned_to c s ls) (next_write c.lines) answer)
     turning s ls answer same holder q fine =
         go_on e t h i b action (turned_to c s ls) (next_write c.lines) answer (mine own).0 own same
         (record { state = holder; leads = rw q (mine own).1.leads })
-        (silent (next_write c.lines) (turned_to c s ls) answer (write_sends_nothing c.lines)) fine
+        (silent (next_write c.lines) (write_sends_nothing c.lines)) fine
 
   -- COMMIT
   pub commit : c.state ≡ Commit → InvAfter e t i action (in_commit (shared e) i c)
@@ -139,7 +139,7 @@ module _ (e : Engine) (t : Trace) (h : Inv e t) (i : ℕ) (b : i < length e.core
         let o = acts (shared e) (performed c x depth c.lines) effect Running in
         go_on e t h i b action (performed c x depth c.lines) effect Running ((mine own).0 ++ sent_by effect) own (rw st refl)
         (record { state = rw st no_lines; leads = rw (bare (memory_after effect e.memory)) (run_bare r d ∙ q) })
-        (sent_more e t i o (mine own).0 (mine own).2)
+        (sent_more e t effect (mine own).0 (mine own).2)
         (rw st own, rw st (move i action o ∷ unhit.0, rw unhit.1 refl, λ w. grind (arith, unhit.2)))
 
     -- a step, by what the instruction comes to
@@ -148,10 +148,10 @@ module _ (e : Engine) (t : Trace) (h : Inv e t) (i : ℕ) (b : i < length e.core
         finish_free e t h i b action (resting Stopped c.context c.saved) Nothing Kept c.count (Faulted f c.context.pc) (mine own).0
         (rw (own, eq-eqb i i refl) refl)
         (rw st refl, unit_from e t h i Kept c.count c.saved _ (rw st refl) (run_bare (Err f) d))
-        (silent own Nothing c Full refl) (tt, refl)
+        (silent own Nothing refl) (tt, refl)
     early_commit (Ok (Continues o)) d =
         cond_both (no_room (shared e) o) _ _ (InvAfter e t i action)
-        (λ _. go_on e t h i b action c Nothing Full (mine own).0 own refl (mine own).1 (silent own Nothing c Full refl)
+        (λ _. go_on e t h i b action c Nothing Full (mine own).0 own refl (mine own).1 (silent own Nothing refl)
         (h.good i, h.known i))
         (λ _. performs (Ok (Continues o)) d (context_after o e.memory c.context) c.depth (effect_of o) refl)
     early_commit (Ok (Nests depth)) d = performs _ d (past c.context) depth Nothing (rw append-nil refl)

@@ -10,7 +10,7 @@ use Rattle.formats.specs.declared.instruction.Instruction.{Instruction}
 use Rattle.model.specs.declared.state.State.{State}
 use Rattle.model.specs.declared.state.State.TheVariants.{Transaction}
 use Rattle.model.specs.declared.state.Token.{Token}
-use Rattle.model.specs.declared.state.Token.TheVariants.{Free, Core as CoreHas, Host}
+use Rattle.model.specs.declared.state.Token.TheVariants.{Core as CoreHas}
 use Rattle.model.specs.declared.action.Action.{Action}
 use Rattle.model.specs.OneAtATime.{Machine, runs}
 use Rattle.model.specs.declared.effect.Effect.{Effect}
@@ -24,7 +24,7 @@ use Rattle.model.specs.Traces.{Trace, traced}
 use Rattle.model.specs.Blocks.{Move, also, own_move, block}
 use Rattle.laws.proofs.Blocks.{tracks_other}
 use Rattle.laws.proofs.Lines.{fit_set}
-use Rattle.laws.proofs.Invariant.{Follows, Good, Known, Holding, Holder, Matches, SentIs, HeldIs, Inv}
+use Rattle.laws.proofs.Invariant.{Follows, Good, Known, Holder, Matches, HeldIs, Inv}
 
 -- a write where a block has no tag does not disturb it
 follows_write :
@@ -86,26 +86,23 @@ length_after x m = grind (arith, length-set {A = ℕ})
 abbrev pub move : ℕ → Action → Outcome → Move
 move i action o = record { core = i; action = action; answer = o.answer; effect = o.effect }
 
--- what a step owes
-pub record Step (e : Engine) (t : Trace) (h : Inv e t) (i : ℕ) (action : Action) (o : Outcome) : Type 0 where
+-- what the core after a step owes
+abbrev pub Fine : Engine → Trace → ℕ → Action → Outcome → Type 0
+Fine e t i action o =
+    Good o.core.state e.program (memory_after o.effect e.memory) o.token i o.core
+    × Known o.core.state i (own_move o.answer (move i action o) (block i t.moves)) o.core
+
+-- what a step owes besides
+pub record Step (e : Engine) (t : Trace) (h : Inv e t) (i : ℕ) (o : Outcome) : Type 0 where
   pub quiet : Quiet o.effect e.token o.token i
   pub machine : Machine
   pub ran : runs e.program (e.entries ++ o.entries) t.start ≡ some machine
   pub settled : machine.cores ≡ set h.now.cores i (settle o.core)
   pub size : length machine.memory ≡ length e.memory
-  pub good : Good o.core.state e.program (memory_after o.effect e.memory) o.token i o.core
-  pub known : Known o.core.state i (own_move o.answer (move i action o) (block i t.moves)) o.core
 
 -- the invariant after a step
 abbrev pub InvAfter : Engine → Trace → ℕ → Action → Outcome → Type 0
 InvAfter e t i action o = Inv (change e i o) (traced e (Moved i action o.answer o.effect) t)
-
--- memory and sent entries after a step of a core that had the token, or found it free
-abbrev pub Own : Token → Engine → Trace → ℕ → Outcome → Machine → Type 0
-Own Free e t i o now = (now.memory ≡ memory_after o.effect e.memory) × SentIs (change e i o) t now.sent
-Own (CoreHas k) e t i o now =
-    (k ≡ i) × ((s : List SentEntry) × Holding e.program now (memory_after o.effect e.memory) s o.core × SentIs (change e i o) t s)
-Own Host e t i o now = ⊥
 
 -- nothing is written or sent, by a core that has not the token
 aside_matches :
@@ -116,7 +113,8 @@ aside_matches e t now machine i action o token x not_i m s w = grind (arith, cor
 
 -- a step that pays what it owes keeps the invariant
 module _
-    (e : Engine) (t : Trace) (h : Inv e t) (i : ℕ) (action : Action) (o : Outcome) (b : i < length e.cores) (p : Step e t h i action o) where
+    (e : Engine) (t : Trace) (h : Inv e t) (i : ℕ) (b : i < length e.cores) (action : Action) (o : Outcome) (f : Fine e t i action o)
+    (p : Step e t h i o) where
   abbrev e' : Engine
   e' = change e i o
 
@@ -124,29 +122,26 @@ module _
   t' = traced e (Moved i action o.answer o.effect) t
 
   -- given memory, sent entries and the host's hold
-  kept : Matches o.token e' t' p.machine → HeldIs o.token e' t' → Inv e' t'
+  pub kept : Matches o.token e' t' p.machine → HeldIs o.token e' t' → Inv e' t'
   kept matches held = record {
     few = rw (length-set, length-map) h.few;
     now = p.machine;
     ran = p.ran;
+    matches = matches;
+    held = held;
     settled = p.settled ∙ ap (λ l. set l i (settle o.core)) h.settled ∙ sym (settle_change e i o);
     size = p.size ∙ sym (length_after o.effect e.memory);
     good = λ k. elim (cases_eq k i) [
-      | inl q ↦ rw (q, core_own e i o b) p.good
+      | inl q ↦ rw (q, core_own e i o b) f.0
       | inr q ↦ rw (core_other e i k o q) (good_other o.effect e.program e.memory e.token o.token i k (core_at e k) q p.quiet (h.good k))
     ];
     known = λ k. elim (cases_eq k i) [
-      | inl q ↦ subst (λ n. Known (core_at e' n).state n (block n t'.moves) (core_at e' n)) (sym q) (rw (core_own e i o b, eq-eqb i i refl) p.known)
+      | inl q ↦ subst (λ n. Known (core_at e' n).state n (block n t'.moves) (core_at e' n)) (sym q)
+          (rw (core_own e i o b, eq-eqb i i refl) f.1)
       | inr q ↦ rw (core_other e i k o q, ne_eqb k i q)
           (known_other _ (move i action o) e.program e.memory e.token o.token k (core_at e k) _ refl q p.quiet (h.good k) (h.known k))
     ];
-    matches = matches;
-    held = held;
   }
-
-  -- of a core that had the token, or found it free
-  pub kept_own : Own o.token e t i o p.machine → Inv e' t'
-  kept_own w = kept (grind (arith, core_own e i o b)) (grind arith)
 
   -- of a core that has not the token, and writes and sends nothing
   pub kept_aside :

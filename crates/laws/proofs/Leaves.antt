@@ -1,6 +1,6 @@
 -- The kinds of outcome that a step can have, each with what it owes for the invariant.
 -- Assumes nothing.
-use Rattle.std.proofs.Common.{◌≡◌, ℕ, ◌<◌, false, List, [], length, set, sym, refl, ap, ◌∙◌, arith}
+use Rattle.std.proofs.Common.{◌≡◌, ℕ, ◌<◌, false, List, [], ◌++◌, length, set, sym, refl, ap, ◌∙◌, arith}
 use Rattle.std.proofs.Math.Option.{some}
 use Rattle.std.proofs.lemmas.List.{set-get_or, append-nil}
 use Rattle.std.proofs.lemmas.Bool.Decides.{nat_tests}
@@ -13,13 +13,12 @@ use Rattle.model.specs.declared.action.Action.{Action}
 use Rattle.model.specs.OneAtATime.{Machine, no_core}
 use Rattle.model.specs.declared.effect.Effect.{Effect}
 use Rattle.model.specs.declared.effect.Effect.TheVariants.{Nothing}
-use Rattle.model.specs.Instructions.{memory_after}
+use Rattle.model.specs.Instructions.{memory_after, sent_by}
 use Rattle.model.specs.Cores.{Core, Outcome, settle, settled_stopped, freed, becomes, acts, takes_token, finishes}
-use Rattle.model.specs.Engine.{Engine, core_at, shared, change}
+use Rattle.model.specs.Engine.{Engine, core_at, shared}
 use Rattle.model.specs.Traces.{Trace}
-use Rattle.model.specs.Blocks.{own_move, block}
-use Rattle.laws.proofs.Invariant.{Good, Known, Holder, Holding, Matches, SentIs, Inv}
-use Rattle.laws.proofs.Keeps.{Step, Quiet, InvAfter, move, kept_own, kept_aside, length_after}
+use Rattle.laws.proofs.Invariant.{Holder, Holding, Matches, SentIs, Inv}
+use Rattle.laws.proofs.Keeps.{Fine, Step, Quiet, InvAfter, core_own, kept, kept_aside, length_after}
 use Rattle.laws.proofs.Turns.{core_settled, unit_of, ran_more}
 
 -- a core that is not in one of the three states of the one that has the token
@@ -31,6 +30,10 @@ abbrev pub UnitIs : (e : Engine) (t : Trace) → Inv e t → ℕ → Mark → �
 UnitIs e t h i mark n c m s =
     (settled_stopped (core_at e i).state ≡ false)
     × (unit_of e t h i mark n ≡ some (record { memory = m; sent = s; cores = set h.now.cores i (settle c) }))
+
+-- the same of the entries that a step sends
+abbrev pub SentWith : Effect → Engine → Trace → List SentEntry → Type 0
+SentWith x e t s = t.taken ++ (e.outlet.waiting ++ sent_by x) ≡ t.waiting ++ s
 
 -- the token stays where it is when a core finishes that has it not
 freed_aside :
@@ -45,85 +48,67 @@ alone_quiet : (x : Effect) (token token' : Token) (i : ℕ) → ((k : ℕ) → t
 alone_quiet x token token' i f = grind (arith, f)
 
 module _ (e : Engine) (t : Trace) (h : Inv e t) (i : ℕ) (b : i < length e.cores) (action : Action) where
-  -- what the core after a step owes
-  abbrev pub Fine : Outcome → Type 0
-  Fine o =
-      Good o.core.state e.program (memory_after o.effect e.memory) o.token i o.core
-      × Known o.core.state i (own_move o.answer (move i action o) (block i t.moves)) o.core
-
-  -- a core that is settled as before leaves the settled cores as they are
-  same_cores : (c : Core) → settle c ≡ settle (core_at e i) → h.now.cores ≡ set h.now.cores i (settle c)
-  same_cores c s = sym (set-get_or h.now.cores i no_core) ∙ ap (λ x. set h.now.cores i x) (core_settled e t h i ∙ sym s)
-
-  -- what a step owes that adds nothing to the record: the machine stays
-  abbrev same_machine :
-      (o : Outcome) → o.entries ≡ [] → settle o.core ≡ settle (core_at e i) →
-      Quiet o.effect e.token o.token i → Fine o → Step e t h i action o
-  same_machine o none s q f = record {
+  -- what a step owes that adds nothing to the record, from a core that stays settled where it is: the machine stays
+  abbrev same : (o : Outcome) → o.entries ≡ [] → settle o.core ≡ settle (core_at e i) → Quiet o.effect e.token o.token i → Step e t h i o
+  same o none s q = record {
     quiet = q;
     machine = h.now;
     ran = rw (none, append-nil e.entries) h.ran;
-    settled = same_cores o.core s;
     size = h.size;
-    good = f.0;
-    known = f.1;
+    settled = sym (set-get_or h.now.cores i no_core) ∙ ap (λ x. set h.now.cores i x) (core_settled e t h i ∙ sym s);
   }
 
   -- what a step owes that finishes a unit
-  abbrev unit_machine :
-      (c : Core) (x : Effect) (mark : Mark) (n : ℕ) (answer : Answer) (m : List ℕ) (s : List SentEntry) →
-      UnitIs e t h i mark n c m s → length m ≡ length e.memory → Quiet x e.token (freed e.token i) i →
-      Fine (finishes (shared e) i c x mark n answer) → Step e t h i action (finishes (shared e) i c x mark n answer)
-  unit_machine c x mark n answer m s u size q f = record {
+  abbrev unit :
+      (c : Core) (x : Effect) (mark : Mark) (n : ℕ) (answer : Answer) (m : List ℕ) (s : List SentEntry) → UnitIs e t h i mark n c m s →
+      length m ≡ length e.memory → Quiet x e.token (freed e.token i) i → Step e t h i (finishes (shared e) i c x mark n answer)
+  unit c x mark n answer m s u size q = record {
     quiet = q;
     machine = record { memory = m; sent = s; cores = set h.now.cores i (settle c) };
     ran = ran_more e t h i mark n _ b u.0 u.1;
     settled = refl;
     size = size;
-    good = f.0;
-    known = f.1;
   }
 
   -- only the core changes, and it is none that has the token
   pub only_core :
-      (c : Core) (answer : Answer) → NoHolder e i → settle c ≡ settle (core_at e i) → Fine (becomes (shared e) c answer) →
+      (c : Core) (answer : Answer) → NoHolder e i → settle c ≡ settle (core_at e i) → Fine e t i action (becomes (shared e) c answer) →
       InvAfter e t i action (becomes (shared e) c answer)
   only_core c answer not_i s f =
-      kept_aside e t h i action _ b (same_machine (becomes (shared e) c answer) refl s (λ k ne q. q) f) refl refl not_i refl refl
+      kept_aside e t h i b action _ f (same (becomes (shared e) c answer) refl s (λ k ne q. q)) refl refl not_i refl refl
 
   -- a core that has not the token finishes a unit that writes and sends nothing
   pub finish_aside :
       (c : Core) (mark : Mark) (n : ℕ) (answer : Answer) → NoHolder e i → UnitIs e t h i mark n c h.now.memory h.now.sent →
-      Fine (finishes (shared e) i c Nothing mark n answer) → InvAfter e t i action (finishes (shared e) i c Nothing mark n answer)
+      Fine e t i action (finishes (shared e) i c Nothing mark n answer) → InvAfter e t i action (finishes (shared e) i c Nothing mark n answer)
   finish_aside c mark n answer not_i u f =
       let q = freed_aside e.token e t h.now i not_i h.matches in
-      kept_aside e t h i action _ b (unit_machine c Nothing mark n answer _ _ u h.size (λ k ne p. q ∙ p) f) refl q not_i refl refl
+      kept_aside e t h i b action _ f (unit c Nothing mark n answer _ _ u h.size (λ k ne p. q ∙ p)) refl q not_i refl refl
 
   -- a core finishes, and the token is free then
   pub finish_free :
-      (c : Core) (x : Effect) (mark : Mark) (n : ℕ) (answer : Answer) (s : List SentEntry) →
-      freed e.token i ≡ Free → UnitIs e t h i mark n c (memory_after x e.memory) s →
-      SentIs (change e i (finishes (shared e) i c x mark n answer)) t s → Fine (finishes (shared e) i c x mark n answer) →
+      (c : Core) (x : Effect) (mark : Mark) (n : ℕ) (answer : Answer) (s : List SentEntry) → freed e.token i ≡ Free →
+      UnitIs e t h i mark n c (memory_after x e.memory) s → SentWith x e t s → Fine e t i action (finishes (shared e) i c x mark n answer) →
       InvAfter e t i action (finishes (shared e) i c x mark n answer)
   finish_free c x mark n answer s q u v f =
-      let p = unit_machine c x mark n answer _ s u (length_after x e.memory) (freed_quiet x e.token i q) f in
-      kept_own e t h i action _ b p (rw q (refl, v))
+      kept e t h i b action _ f (unit c x mark n answer _ s u (length_after x e.memory) (freed_quiet x e.token i q))
+      (rw q (refl, v)) (rw q tt)
 
   -- a core that found the token free takes it
   pub take_token :
-      (c : Core) (answer : Answer) → e.token ≡ Free → settle c ≡ settle (core_at e i) →
-      Holding e.program h.now e.memory h.now.sent c → SentIs e t h.now.sent → Fine (takes_token i c answer) →
-      InvAfter e t i action (takes_token i c answer)
+      (c : Core) (answer : Answer) → e.token ≡ Free → settle c ≡ settle (core_at e i) → Holding e.program h.now e.memory h.now.sent c →
+      SentIs e t h.now.sent → Fine e t i action (takes_token i c answer) → InvAfter e t i action (takes_token i c answer)
   take_token c answer q s w v f =
-      kept_own e t h i action _ b (same_machine (takes_token i c answer) refl s (alone_quiet Nothing e.token (CoreHas i) i (λ k p. cc)) f)
-      (refl, (h.now.sent, w, rw append-nil v))
+      let o = takes_token i c answer in
+      kept e t h i b action o f (same o refl s (alone_quiet Nothing e.token (CoreHas i) i (λ k p. cc)))
+      (h.now.sent, rw (core_own e i o b) w, rw append-nil v) tt
 
   -- the core that has the token goes on with it
   pub go_on :
-      (c : Core) (x : Effect) (answer : Answer) (s : List SentEntry) →
-      e.token ≡ CoreHas i → settle c ≡ settle (core_at e i) → Holding e.program h.now (memory_after x e.memory) s c →
-      SentIs (change e i (acts (shared e) c x answer)) t s → Fine (acts (shared e) c x answer) →
+      (c : Core) (x : Effect) (answer : Answer) (s : List SentEntry) → e.token ≡ CoreHas i → settle c ≡ settle (core_at e i) →
+      Holding e.program h.now (memory_after x e.memory) s c → SentWith x e t s → Fine e t i action (acts (shared e) c x answer) →
       InvAfter e t i action (acts (shared e) c x answer)
   go_on c x answer s own q w v f =
-      kept_own e t h i action _ b (same_machine (acts (shared e) c x answer) refl q (alone_quiet x e.token e.token i (λ k p. cc)) f)
-      (rw own (refl, (s, w, v)))
+      let o = acts (shared e) c x answer in
+      kept e t h i b action o f (same o refl q (alone_quiet x e.token e.token i (λ k p. cc)))
+      (rw own (s, rw (core_own e i o b) w, v)) (rw own tt)

@@ -17,16 +17,17 @@ use Rattle.model.specs.declared.action.Operation.{Operation}
 use Rattle.model.specs.declared.action.Operation.TheVariants.{Sets, Jumps}
 use Rattle.model.specs.declared.action.Action.{Action}
 use Rattle.model.specs.declared.action.Action.TheVariants.{Performs, Begins, Halts}
+use Rattle.model.specs.declared.effect.Effect.{Effect}
 use Rattle.model.specs.declared.effect.Effect.TheVariants.{Nothing}
 use Rattle.model.specs.Instructions.{action_at, outside, past, context_after, effect_of, sent_by}
 use Rattle.model.specs.OneAtATime.{Alone, Whole, Faults, first}
 use Rattle.model.specs.Cores.{Core, settled_context, settled_stopped, Outcome, resting, opened, rolled_back, is_free, once_free, faulted, plain, accesses, no_room, operates, in_bypass, step_by_state}
-use Rattle.model.specs.Engine.{Engine, core_at, shared, change}
+use Rattle.model.specs.Engine.{Engine, core_at, shared}
 use Rattle.model.specs.Traces.{Trace}
 use Rattle.laws.proofs.Invariant.{alone, Matches, SentIs, Inv}
 use Rattle.laws.proofs.Blocks.{tracks_none}
-use Rattle.laws.proofs.Keeps.{InvAfter}
-use Rattle.laws.proofs.Leaves.{NoHolder, Fine, only_core, finish_aside, finish_free}
+use Rattle.laws.proofs.Keeps.{Fine, InvAfter}
+use Rattle.laws.proofs.Leaves.{NoHolder, SentWith, only_core, finish_aside, finish_free}
 
 -- with the token free, memory and sent entries are the machine's
 pub when_free : (e : Engine) (t : Trace) (h : Inv e t) → e.token ≡ Free → Matches Free e t h.now
@@ -36,9 +37,8 @@ free_is : (token : Token) → is_free token ≡ true → token ≡ Free
 free_is token h = grind arith
 
 -- what a step sends is sent after what was sent
-pub sent_more :
-    (e : Engine) (t : Trace) (i : ℕ) (o : Outcome) (s : List SentEntry) → SentIs e t s → SentIs (change e i o) t (s ++ sent_by o.effect)
-sent_more e t i o s p = rw (← append_assoc t.taken e.outlet.waiting (sent_by o.effect), p) (append_assoc t.waiting s (sent_by o.effect))
+pub sent_more : (e : Engine) (t : Trace) (x : Effect) (s : List SentEntry) → SentIs e t s → SentWith x e t (s ++ sent_by x)
+sent_more e t x s p = rw (← append_assoc t.taken e.outlet.waiting (sent_by x), p) (append_assoc t.waiting s (sent_by x))
 
 module _ (e : Engine) (t : Trace) (h : Inv e t) (i : ℕ) (b : i < length e.cores) (action : Action) where
   abbrev c : Core
@@ -78,7 +78,7 @@ module _ (e : Engine) (t : Trace) (h : Inv e t) (i : ℕ) (b : i < length e.core
 
     -- an instruction that needs neither memory nor outlet
     aside :
-        (s : State) (x : Context) → Fine e t h i b action (plain (shared e) i c s x Nothing) →
+        (s : State) (x : Context) → Fine e t i action (plain (shared e) i c s x Nothing) →
         first here (action_at e.program c.context) ≡ Whole (settled_stopped s) (record here { context = settled_context s (resting s x c.saved) }) →
         InvAfter e t i action (plain (shared e) i c s x Nothing)
     aside s x fine q = finish_aside e t h i b action (resting s x c.saved) Completed 1 Done not_i (rw st refl, rw (st, q) refl) fine
@@ -93,7 +93,7 @@ module _ (e : Engine) (t : Trace) (h : Inv e t) (i : ℕ) (b : i < length e.core
         (λ _. only_core e t h i b action c Full not_i refl (h.good i, h.known i))
         (λ _. finish_free e t h i b action (resting Bypass (context_after o e.memory c.context) c.saved) (effect_of o) Completed 1 Done
         (h.now.sent ++ sent_by (effect_of o)) (rw f refl) (rw st refl, rw (st, w.0, d, within) refl)
-        (sent_more e t i (plain (shared e) i c Bypass (context_after o e.memory c.context) (effect_of o)) h.now.sent w.1)
+        (sent_more e t (effect_of o) h.now.sent w.1)
         (tt, refl))
 
     -- one that needs neither memory nor outlet

@@ -25,14 +25,14 @@ use Rattle.model.specs.OneAtATime.{Inside, operated, further, run}
 use Rattle.model.specs.Lines.{has_line, value_at, tagged, loaded_line, stored_line, store_at, any_dirty}
 use Rattle.model.specs.Cores.{Core, settle, resting, turned_to, performed, rolled_back, takes_token, continued, faulted, early, closes, buffered, with_line, in_transaction}
 use Rattle.model.specs.Engine.{Engine, core_at, shared}
-use Rattle.model.specs.Blocks.{Move, At, Reads, Writes, Neither, touch, own_move, block, Hit}
+use Rattle.model.specs.Blocks.{Move, Reads, Writes, Neither, touch, own_move, block, Hit}
 use Rattle.model.specs.Traces.{Trace}
 use Rattle.laws.proofs.Lines.{overlay, overlay_append, overlay_clean, get_or_overlay, get_or_overlay_other, overlay_store_at}
 use Rattle.laws.proofs.Lines.{Fit, Fits, Agree, tagged_append, has_line_store_at, tagged_store_at, fit_append, fit_store_at, fit_agree}
 use Rattle.laws.proofs.Invariant.{alone, Holder, Follows, Good, Known, Tracks, Open, Inv}
 use Rattle.laws.proofs.Blocks.{tracks_same, tracks_new}
-use Rattle.laws.proofs.Keeps.{InvAfter, move}
-use Rattle.laws.proofs.Leaves.{NoHolder, Fine, only_core, finish_free, take_token}
+use Rattle.laws.proofs.Keeps.{Fine, InvAfter, move}
+use Rattle.laws.proofs.Leaves.{NoHolder, only_core, finish_free, take_token}
 use Rattle.laws.proofs.Turns.{from_now, run_more, unit_from}
 use Rattle.laws.proofs.Plain.{once_kept, when_free}
 use Rattle.laws.proofs.Decoding.{decoded, directly, directed}
@@ -103,7 +103,7 @@ module _ (e : Engine) (t : Trace) (h : Inv e t) (i : ℕ) (b : i < length e.core
   taking :
       (s : State) (ls : List Line) (answer : Answer) → e.token ≡ Free → settle (turned_to c s ls) ≡ settle c →
       Holder s e.program e.memory (turned_to c s ls) → overlay ls e.memory ≡ overlay c.lines e.memory →
-      Fine e t h i b action (takes_token i (turned_to c s ls) answer) → InvAfter e t i action (takes_token i (turned_to c s ls) answer)
+      Fine e t i action (takes_token i (turned_to c s ls) answer) → InvAfter e t i action (takes_token i (turned_to c s ls) answer)
   taking s ls answer f same holder q fine =
       take_token e t h i b action (turned_to c s ls) answer f same (record { state = holder; leads = rw q (leads_now f) })
       (when_free e t h f).1 fine
@@ -135,12 +135,6 @@ module _ (e : Engine) (t : Trace) (h : Inv e t) (i : ℕ) (b : i < length e.core
       (rw q refl) (rw st refl, rw (← (overlay_clean c.lines e.memory clean)) (unit_from e t h i Completed (suc c.count) c.saved _ (rw st refl) (now_more _ d q)))
       (rw append-nil (when_free e t h q).1) (tt, refl)))
 
-  -- a word that is in a line is touched
-  tracks_held :
-      (ls : List Line) → ((q : ℕ) → tagged ls q ≡ tagged c.lines q) → ((q : ℕ) → has_line ls q ≡ has_line c.lines q) → (a : ℕ) →
-      has_line c.lines a ≡ true → ((q : ℕ) → At (touch action) q → a ≡ q) → Tracks i ls (ran ∷ opened.0)
-  tracks_held ls tag line a held at = tracks_same ran i c.lines opened.0 opened.2 refl ls tag line (λ q p. rw (← (at q p)) held)
-
   -- one that touches no word and leaves the lines as they are
   aside : (r : Decision) → Comes r → (x : Context) (depth : ℕ) → touch action ≡ Neither →
       ((m' : List ℕ) (s : List SentEntry) → further c.depth (alone c.context m' s) (directly r) ≡ Inside depth (alone x m' s)) →
@@ -171,7 +165,7 @@ module _ (e : Engine) (t : Trace) (h : Inv e t) (i : ℕ) (b : i < length e.core
       let w = get_or e.memory a 0 in
       cond_both (has_line c.lines a) _ _ (InvAfter e t i action)
       (λ held. runs_on _ d (with_reg c.context k (value_at c.lines a)) c.depth c.lines follows.fit (λ q tag. tag)
-      (tracks_held c.lines (λ q. refl) (λ q. refl) a held (λ q p. rw is at p))
+      (tracks_same ran i c.lines opened.0 opened.2 refl c.lines (λ q. refl) (λ q. refl) (λ q p. rw (← (rw is at p)) held))
       (λ m' s n old _. rw (append-nil s, get_or_overlay c.lines m' a (fit_agree c.lines e.memory m' follows.fit n old) held) refl))
       (λ absent. new_line (Loads a k) d (with_reg c.context k w) (loaded_line a w)
       (record { inside = grind (arith, nat_tests); clean = λ _. (refl, refl) }) (rw is refl) absent
@@ -182,7 +176,8 @@ module _ (e : Engine) (t : Trace) (h : Inv e t) (i : ℕ) (b : i < length e.core
       cond_both (has_line c.lines a) _ _ (InvAfter e t i action)
       (λ held. runs_on _ d (past c.context) c.depth (store_at c.lines a w) (fit_store_at c.lines a w e.memory follows.fit)
       (λ q tag. tagged_store_at c.lines a w q ∙ tag)
-      (tracks_held (store_at c.lines a w) (tagged_store_at c.lines a w) (has_line_store_at c.lines a w) a held (λ q p. rw is at p))
+      (tracks_same ran i c.lines opened.0 opened.2 refl (store_at c.lines a w) (tagged_store_at c.lines a w) (has_line_store_at c.lines a w)
+      (λ q p. rw (← (rw is at p)) held))
       (λ m' s n old _. rw (append-nil s, overlay_store_at c.lines m' a w (fit_agree c.lines e.memory m' follows.fit n old) held) refl))
       (λ absent. new_line (Stores a w) d (past c.context) (stored_line a w)
       (record { inside = grind (arith, nat_tests); clean = λ dirty. cc }) (rw is refl) absent
