@@ -47,7 +47,8 @@ state_kept Stopped e t h i b st = stopped e t h i b _ st
 -- step
 step_kept : (e : Engine) (t : Trace) (h : Inv e t) (i : ℕ) → Inv (step e i).engine (traced e (event e (Step i)) t)
 step_kept e t h i =
-    let kept : i < length e.cores → InvAfter e t i (action_at e.program (core_at e i).context) (outcome_of e i) = λ b. state_kept _ e t h i b refl in
+    let kept : i < length e.cores → InvAfter e t i (action_at e.program (core_at e i).context) (outcome_of e i) =
+    λ b. state_kept _ e t h i b refl in
     grind (arith, nat_tests, kept)
 
 -- a turn: the core that is next is no matter

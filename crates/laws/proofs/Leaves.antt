@@ -80,7 +80,8 @@ module _ (e : Engine) (t : Trace) (h : Inv e t) (i : ℕ) (b : i < length e.core
   -- a core that has not the token finishes a unit that writes and sends nothing
   pub finish_aside :
       (c : Core) (mark : Mark) (n : ℕ) (answer : Answer) → NoHolder e i → UnitIs e t h i mark n c h.now.memory h.now.sent →
-      Fine e t i action (finishes (shared e) i c Nothing mark n answer) → InvAfter e t i action (finishes (shared e) i c Nothing mark n answer)
+      Fine e t i action (finishes (shared e) i c Nothing mark n answer) →
+      InvAfter e t i action (finishes (shared e) i c Nothing mark n answer)
   finish_aside c mark n answer not_i u f =
       let q = freed_aside e.token e t h.now i not_i h.matches in
       kept_aside e t h i b action _ f (unit c Nothing mark n answer _ _ u h.size (λ k ne p. q ∙ p)) refl q not_i refl refl

@@ -79,7 +79,8 @@ module _ (e : Engine) (t : Trace) (h : Inv e t) (i : ℕ) (b : i < length e.core
     -- an instruction that needs neither memory nor outlet
     aside :
         (s : State) (x : Context) → Fine e t i action (plain (shared e) i c s x Nothing) →
-        first here (action_at e.program c.context) ≡ Whole (settled_stopped s) (record here { context = settled_context s (resting s x c.saved) }) →
+        first here (action_at e.program c.context)
+        ≡ Whole (settled_stopped s) (alone (settled_context s (resting s x c.saved)) h.now.memory h.now.sent) →
         InvAfter e t i action (plain (shared e) i c s x Nothing)
     aside s x fine q = finish_aside e t h i b action (resting s x c.saved) Completed 1 Done not_i (rw st refl, rw (st, q) refl) fine
 

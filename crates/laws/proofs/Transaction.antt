@@ -70,7 +70,8 @@ module _ (e : Engine) (t : Trace) (h : Inv e t) (i : ℕ) (b : i < length e.core
 
   now_more :
       (r : Decision) → Comes r → e.token ≡ Free →
-      run e.program (from_now h c.saved) (suc c.count) ≡ further c.depth (alone c.context (overlay c.lines e.memory) h.now.sent) (directly r)
+      run e.program (from_now h c.saved) (suc c.count)
+      ≡ further c.depth (alone c.context (overlay c.lines e.memory) h.now.sent) (directly r)
   now_more r d f = run_more e.program _ c e.memory h.now.sent _ (directly r) (leads_now f) refl (directed e.program _ _ _ _ r d)
 
   -- the move of an instruction that is performed
@@ -131,8 +132,10 @@ module _ (e : Engine) (t : Trace) (h : Inv e t) (i : ℕ) (b : i < length e.core
       once_kept e t h i b action (closes (shared e) i c) not_i
       (λ q. cond_both (any_dirty c.lines) _ _ (InvAfter e t i action)
       (λ _. taking Commit c.lines Committing q (rw st refl) (directed e.program _ _ _ _ _ d) refl (refl, unhit))
-      (λ clean. finish_free e t h i b action (resting Bypass (past c.context) c.saved) Nothing Completed (suc c.count) Done h.now.sent
-      (rw q refl) (rw st refl, rw (← (overlay_clean c.lines e.memory clean)) (unit_from e t h i Completed (suc c.count) c.saved _ (rw st refl) (now_more _ d q)))
+      (λ clean.
+      let is = unit_from e t h i Completed (suc c.count) c.saved _ (rw st refl) (now_more _ d q) in
+      finish_free e t h i b action (resting Bypass (past c.context) c.saved) Nothing Completed (suc c.count) Done h.now.sent
+      (rw q refl) (rw st refl, rw (← (overlay_clean c.lines e.memory clean)) is)
       (rw append-nil (when_free e t h q).1) (tt, refl)))
 
   -- one that touches no word and leaves the lines as they are
