@@ -1,120 +1,118 @@
 -- Steps of the core that has the token: COMMIT, EARLY_FLUSH and EARLY_COMMIT.
 -- Assumes nothing.
-use Rattle.std.proofs.Common.{◌≡◌, ℕ, suc, ◌<◌, true, false, ltb, List, [], ◌∷◌, ◌++◌, length, get_or, sym, refl, ◌∙◌, arith, Ok, Err}
-use mathlib.Core.Option.{some}
+use Rattle.std.proofs.Common.{◌≡◌, ℕ, suc, ◌<◌, true, false, List, [], ◌∷◌, ◌++◌, length, sym, refl, ◌∙◌, arith, Ok, Err}
+use Rattle.std.proofs.lemmas.List.{append-nil}
 use Rattle.std.proofs.lemmas.Bool.{cond_both, eq-eqb}
-use Rattle.answers.specs.declared.answer.Fault.{Fault}
-use Rattle.answers.specs.declared.answer.Fault.TheVariants.{RetryAfterEarly}
+use Rattle.answers.specs.declared.answer.Answer.{Answer}
 use Rattle.answers.specs.declared.answer.Answer.TheVariants.{Running, Done, Committing, Early, Full, Faulted}
 use Rattle.formats.specs.declared.entry.Mark.TheVariants.{Completed, Kept}
-use Rattle.formats.specs.declared.entry.SentEntry.{SentEntry}
+use Rattle.model.specs.declared.state.State.{State}
 use Rattle.model.specs.declared.state.State.TheVariants.{Bypass, Commit, EarlyFlush, EarlyCommit, Stopped}
-use Rattle.model.specs.declared.state.Token.TheVariants.{Free, Core as CoreHas}
-use Rattle.model.specs.declared.place.Place.{Place}
-use Rattle.model.specs.Instructions.{with_reg, past, inner_at}
-use Rattle.model.specs.declared.ask.Ask.{Ask}
-use Rattle.model.specs.Instructions.{Decision}
-use Rattle.model.specs.declared.ask.Inner.TheVariants.{Goes, Fetches, Puts, Outputs, Closes, Restarts, TakesToken}
-use Rattle.model.specs.OneAtATime.{Inside, further, faults_further, run}
-use Rattle.model.specs.declared.place.Line.{Line}
+use Rattle.model.specs.declared.state.Token.TheVariants.{Core as CoreHas}
+use Rattle.model.specs.declared.context.Context.{Context}
+use Rattle.model.specs.declared.action.Action.{Action}
+use Rattle.model.specs.declared.action.BlockAction.TheVariants.{Continues, Nests, Closes, Restarts, TakesToken}
 use Rattle.model.specs.declared.effect.Effect.{Effect}
-use Rattle.model.specs.declared.effect.Effect.TheVariants.{Nothing, Wrote, Sent}
-use Rattle.model.specs.Lines.{any_dirty, wrote, left}
-use Rattle.model.specs.Cores.{Core, resting, turned_to, performed, settled_place, settled_stopped, freed, acts, faulted, ends, in_commit, in_early_flush, in_early_commit}
-use Rattle.model.specs.Engine.{Engine, Outlet, core_at, view_of, change, memory_after, outlet_after}
-use Rattle.model.specs.Journal.{Journal}
-use Rattle.model.specs.Blocks.{Touch, touch}
-use Rattle.laws.proofs.Books.{Book, own_book, books}
-use Rattle.laws.proofs.Lines.{overlay, length_overlay, overlay_clean, overlay_left}
-use Rattle.laws.proofs.Invariant.{scene, Shared, SentIs, Inv}
-use Rattle.laws.proofs.Keeps.{InvAfter, length_after}
-use Rattle.laws.proofs.Leaves.{unit_from, finish_free, go_on}
-use Rattle.laws.proofs.Plain.{one_more_sent}
+use Rattle.model.specs.declared.effect.Effect.TheVariants.{Nothing}
+use Rattle.model.specs.declared.line.Line.{Line}
+use Rattle.model.specs.Instructions.{Decision, decision_at, past, context_after, effect_of, memory_after, sent_by}
+use Rattle.model.specs.OneAtATime.{Inside, further, run}
+use Rattle.model.specs.Lines.{any_dirty, next_write, after_write}
+use Rattle.model.specs.Cores.{Core, settle, resting, turned_to, performed, settled_context, settled_stopped, acts, no_room, ends, in_commit, in_early_flush, in_early_commit}
+use Rattle.model.specs.Engine.{Engine, core_at, shared}
+use Rattle.model.specs.Blocks.{block, Hit}
+use Rattle.model.specs.Traces.{Trace}
+use Rattle.laws.proofs.Lines.{overlay, overlay_clean, overlay_after_write}
+use Rattle.laws.proofs.Invariant.{alone, Holder, Open, Matches, Inv}
+use Rattle.laws.proofs.Keeps.{Fine, InvAfter, move, length_after}
+use Rattle.laws.proofs.Leaves.{SentWith, finish_free, go_on}
+use Rattle.laws.proofs.Turns.{from_now, run_more, unit_from}
+use Rattle.laws.proofs.Plain.{sent_more}
 
 -- writing a line sends nothing
-wrote_sends_nothing : (ls : List Line) (o : Outlet) → outlet_after (wrote ls) o ≡ o
-wrote_sends_nothing [] o = refl
-wrote_sends_nothing (l ∷ ls) o = grind (arith, wrote_sends_nothing ls o)
+write_sends_nothing : (ls : List Line) → sent_by (next_write ls) ≡ []
+write_sends_nothing [] = refl
+write_sends_nothing (l ∷ ls) = grind (arith, write_sends_nothing ls)
 
 -- the last dirty line is written: the memory is as overlaid
-all_written_lem : (ls : List Line) (m : List ℕ) → any_dirty (left ls) ≡ false → overlay ls m ≡ memory_after (wrote ls) m
-all_written_lem ls m h = sym (overlay_left ls m) ∙ overlay_clean (left ls) (memory_after (wrote ls) m) h
+all_written : (ls : List Line) (m : List ℕ) → any_dirty (after_write ls) ≡ false → overlay ls m ≡ memory_after (next_write ls) m
+all_written ls m h = sym (overlay_after_write ls m) ∙ overlay_clean (after_write ls) (memory_after (next_write ls) m) h
 
--- an open block that is not hit stays so while it performs
-running_open : (t : Touch) (b : Book) → b.is_open ≡ true → b.hit ≡ false → ((own_book t Running b).is_open ≡ true) × ((own_book t Running b).hit ≡ false)
-running_open t b p q = grind arith
-
-module _ (e : Engine) (j : Journal) (h : Inv e j) (i : ℕ) (b : i < length e.cores) (ask : Ask) where
+module _ (e : Engine) (t : Trace) (h : Inv e t) (i : ℕ) (b : i < length e.cores) (action : Action) where
   abbrev c : Core
   c = core_at e i
 
   -- with the token its own
-  mine : e.token ≡ CoreHas i → Shared (CoreHas i) e j h.now
-  mine own = rw own at h.shared
+  mine : e.token ≡ CoreHas i → Matches (CoreHas i) e t h.now
+  mine own = rw own at h.matches
 
-  freed_own : e.token ≡ CoreHas i → freed e.token i ≡ Free
-  freed_own own = rw (own, eq-eqb i i refl) refl
+  -- an open block that is not hit
+  abbrev Unhit : Type 0
+  Unhit = Open (block i t.moves) (λ vs. Hit i vs → ⊥)
 
-  -- the next instruction of the block, alone
-  held_more :
-      (own : e.token ≡ CoreHas i) (r : Decision) → inner_at e.program (length e.memory) c.place c.depth c.count ≡ r →
-      run e.program (scene c.saved h.now.memory h.now.sent) (suc c.count)
-      ≡ further c.depth (scene c.place (overlay c.lines e.memory) (mine own).0) r
-  held_more own r d = rw ((mine own).1.alone, length_overlay c.lines e.memory, d) refl
+  module _ (own : e.token ≡ CoreHas i) where
+    -- the next instruction of the block, alone
+    run_on :
+        (r : Decision) → decision_at e.program true (length e.memory) c.context c.depth c.count ≡ r →
+        run e.program (from_now h c.saved) (suc c.count) ≡ further c.depth (alone c.context (overlay c.lines e.memory) (mine own).0) r
+    run_on r d = run_more e.program _ c e.memory (mine own).0 _ r (mine own).1.leads refl d
 
-  -- the block ends with a last effect that writes what is still dirty
-  ends_own :
-      (x : Effect) (own : e.token ≡ CoreHas i) → settled_place c.state c ≡ c.saved → settled_stopped c.state ≡ false →
-      inner_at e.program (length e.memory) c.place c.depth c.count ≡ (Ok Closes) →
-      overlay c.lines e.memory ≡ memory_after x e.memory → outlet_after x e.outlet ≡ e.outlet →
-      InvAfter e j i ask (ends (view_of e i) c x)
-  ends_own x own place alive d m o =
-      let c' = resting Bypass (past c.place) c.saved in
-      finish_free e j h i b ask c' x Completed (suc c.count) Done (freed_own own)
-      (record {
-        alive = alive;
-        memory = overlay c.lines e.memory;
-        sent = (mine own).0;
-        is = unit_from e j h i Completed (suc c.count) c.saved _ place (held_more own (Ok Closes) d);
-      })
-      m (rw o (mine own).2) tt refl
+    -- a step that sends nothing leaves what is sent
+    silent : (x : Effect) → sent_by x ≡ [] → SentWith x e t (mine own).0
+    silent x n = rw (n, append-nil e.outlet.waiting) (mine own).2
+
+    -- the block ends with a last effect that writes what is still dirty
+    ending :
+        (x : Effect) → settled_context c.state c ≡ c.saved → settled_stopped c.state ≡ false →
+        decision_at e.program true (length e.memory) c.context c.depth c.count ≡ Ok Closes →
+        overlay c.lines e.memory ≡ memory_after x e.memory → sent_by x ≡ [] → InvAfter e t i action (ends (shared e) i c x)
+    ending x from alive d m n =
+        finish_free e t h i b action (resting Bypass (past c.context) c.saved) x Completed (suc c.count) Done (mine own).0
+        (rw (own, eq-eqb i i refl) refl)
+        (alive, rw (← m) (unit_from e t h i Completed (suc c.count) c.saved _ from (run_on _ d)))
+        (silent x n) (tt, refl)
+
+    -- the oldest dirty line is written, and the core comes to a state with lines
+    turning :
+        (s : State) (ls : List Line) (answer : Answer) → settle (turned_to c s ls) ≡ settle c →
+        Holder s e.program (memory_after (next_write c.lines) e.memory) (turned_to c s ls) →
+        overlay ls (memory_after (next_write c.lines) e.memory) ≡ overlay c.lines e.memory →
+        Fine e t i action (acts (shared e) (turned_to c s ls) (next_write c.lines) answer) →
+        InvAfter e t i action (acts (shared e) (turned_to c s ls) (next_write c.lines) answer)
+    turning s ls answer same holder q fine =
+        go_on e t h i b action (turned_to c s ls) (next_write c.lines) answer (mine own).0 own same
+        (record { state = holder; leads = rw q (mine own).1.leads })
+        (silent (next_write c.lines) (write_sends_nothing c.lines)) fine
 
   -- COMMIT
-  pub commit : c.state ≡ Commit → InvAfter e j i ask (in_commit (view_of e i) c)
+  pub commit : c.state ≡ Commit → InvAfter e t i action (in_commit (shared e) i c)
   commit st =
       let own : e.token ≡ CoreHas i = rw st at (h.good i) in
-      let book : ((books j.moves i).is_open ≡ true) × ((books j.moves i).hit ≡ false) = rw st at (h.booked i) in
-      let d : inner_at e.program (length e.memory) c.place c.depth c.count ≡ (Ok Closes) = rw st at (mine own).1.state in
-      let m = memory_after (wrote c.lines) e.memory in
-      cond_both (any_dirty (left c.lines)) _ _ (InvAfter e j i ask)
-      (λ _. go_on e j h i b ask (turned_to c Commit (left c.lines)) (wrote c.lines) Committing own (rw st refl) (mine own).0
-      (record { state = rw (length_after (wrote c.lines) e.memory) d; alone = rw (overlay_left c.lines e.memory) (mine own).1.alone })
-      (rw (wrote_sends_nothing c.lines e.outlet) (mine own).2)
-      own book)
-      (λ q. ends_own (wrote c.lines) own (rw st refl) (rw st refl) d (all_written_lem c.lines e.memory q) (wrote_sends_nothing c.lines e.outlet))
+      let unhit : Unhit = rw st at (h.known i) in
+      let d : decision_at e.program true (length e.memory) c.context c.depth c.count ≡ Ok Closes = rw st at (mine own).1.state in
+      cond_both (any_dirty (after_write c.lines)) _ _ (InvAfter e t i action)
+      (λ _. turning own Commit (after_write c.lines) Committing (rw st refl) (rw (length_after (next_write c.lines) e.memory) d)
+      (overlay_after_write c.lines e.memory) (own, unhit))
+      (λ q. ending own (next_write c.lines) (rw st refl) (rw st refl) d (all_written c.lines e.memory q) (write_sends_nothing c.lines))
 
   -- EARLY_FLUSH
-  pub early_flush : c.state ≡ EarlyFlush → InvAfter e j i ask (in_early_flush (view_of e i) c)
+  pub early_flush : c.state ≡ EarlyFlush → InvAfter e t i action (in_early_flush (shared e) c)
   early_flush st =
       let own : e.token ≡ CoreHas i = rw st at (h.good i) in
-      let book : ((books j.moves i).is_open ≡ true) × ((books j.moves i).hit ≡ false) = rw st at (h.booked i) in
-      cond_both (any_dirty (left c.lines)) _ _ (InvAfter e j i ask)
-      (λ _. go_on e j h i b ask (turned_to c EarlyFlush (left c.lines)) (wrote c.lines) Early own (rw st refl) (mine own).0
-      (record { state = tt; alone = rw (overlay_left c.lines e.memory) (mine own).1.alone })
-      (rw (wrote_sends_nothing c.lines e.outlet) (mine own).2)
-      own book)
-      (λ q. go_on e j h i b ask (turned_to c EarlyCommit []) (wrote c.lines) Early own (rw st refl) (mine own).0
-      (record { state = refl; alone = rw (← (all_written_lem c.lines e.memory q)) (mine own).1.alone })
-      (rw (wrote_sends_nothing c.lines e.outlet) (mine own).2)
-      own book)
+      let unhit : Unhit = rw st at (h.known i) in
+      cond_both (any_dirty (after_write c.lines)) (turned_to c EarlyFlush (after_write c.lines)) (turned_to c EarlyCommit [])
+      (λ c'. InvAfter e t i action (acts (shared e) c' (next_write c.lines) Early))
+      (λ _. turning own EarlyFlush (after_write c.lines) Early (rw st refl) tt (overlay_after_write c.lines e.memory)
+      (own, unhit))
+      (λ q. turning own EarlyCommit [] Early (rw st refl) refl (sym (all_written c.lines e.memory q)) (own, unhit))
 
   -- EARLY_COMMIT
   module _ (st : c.state ≡ EarlyCommit) where
     own : e.token ≡ CoreHas i
     own = rw st at (h.good i)
 
-    book : ((books j.moves i).is_open ≡ true) × ((books j.moves i).hit ≡ false)
-    book = rw st at (h.booked i)
+    unhit : Unhit
+    unhit = rw st at (h.known i)
 
     no_lines : c.lines ≡ []
     no_lines = rw st at (mine own).1.state
@@ -122,56 +120,41 @@ module _ (e : Engine) (j : Journal) (h : Inv e j) (i : ℕ) (b : i < length e.co
     bare : (m : List ℕ) → overlay c.lines m ≡ m
     bare m = rw no_lines refl
 
-    -- the core performs an instruction of its block
-    performs :
-        (p : Place) (depth : ℕ) (x : Effect) (s : List SentEntry) →
-        run e.program (scene c.saved h.now.memory h.now.sent) (suc c.count) ≡ Inside depth (scene p (memory_after x e.memory) s) →
-        SentIs (change e i (acts (view_of e i) (performed c p depth c.lines) x Running)) j s →
-        InvAfter e j i ask (acts (view_of e i) (performed c p depth c.lines) x Running)
-    performs p depth x s r v =
-        go_on e j h i b ask (performed c p depth c.lines) x Running own (rw st refl) s
-        (record {
-          state = rw st no_lines;
-          alone = rw (bare (memory_after x e.memory)) r;
-        })
-        v
-        (rw st own)
-        (rw st (running_open (touch ask) (books j.moves i) book.0 book.1))
+    -- what the instruction comes to
+    abbrev Comes : Decision → Type 0
+    Comes r = decision_at e.program true (length e.memory) c.context c.depth c.count ≡ r
 
     -- the block's run with one more instruction, with no lines left
-    bare_more :
-        (r : Decision) → inner_at e.program (length e.memory) c.place c.depth c.count ≡ r →
-        run e.program (scene c.saved h.now.memory h.now.sent) (suc c.count) ≡ further c.depth (scene c.place e.memory (mine own).0) r
-    bare_more r d = rw (bare e.memory) at (held_more own r d)
+    run_bare :
+        (r : Decision) → Comes r →
+        run e.program (from_now h c.saved) (suc c.count) ≡ further c.depth (alone c.context e.memory (mine own).0) r
+    run_bare r d = rw (bare e.memory) at (run_on own r d)
 
-    -- the block faults, and what it wrote and sent stays
-    faults_kept_lem : (f : Fault) (r : Decision) → faults_further (scene c.place (overlay c.lines e.memory) (mine own).0) r ≡ some (scene c.place (overlay c.lines e.memory) (mine own).0) →
-        inner_at e.program (length e.memory) c.place c.depth c.count ≡ r →
-        InvAfter e j i ask (faulted (view_of e i) c Kept c.count f)
-    faults_kept_lem f r q d =
-        let c' = resting Stopped c.place c.saved in
-        finish_free e j h i b ask c' Nothing Kept c.count (Faulted f c.place.pc) (freed_own own)
-        (record {
-          alive = rw st refl;
-          memory = overlay c.lines e.memory;
-          sent = (mine own).0;
-          is = rw (st, (mine own).1.alone, length_overlay c.lines e.memory, d, q) refl;
-        })
-        (bare e.memory) (mine own).2 tt refl
+    -- the core performs an instruction of its block
+    performs :
+        (r : Decision) → Comes r → (x : Context) (depth : ℕ) (effect : Effect) → further c.depth (alone c.context e.memory (mine own).0) r
+        ≡ Inside depth (alone x (memory_after effect e.memory) ((mine own).0 ++ sent_by effect)) →
+        InvAfter e t i action (acts (shared e) (performed c x depth c.lines) effect Running)
+    performs r d x depth effect q =
+        let o = acts (shared e) (performed c x depth c.lines) effect Running in
+        go_on e t h i b action (performed c x depth c.lines) effect Running ((mine own).0 ++ sent_by effect) own (rw st refl)
+        (record { state = rw st no_lines; leads = rw (bare (memory_after effect e.memory)) (run_bare r d ∙ q) })
+        (sent_more e t effect (mine own).0 (mine own).2)
+        (rw st own, rw st (move i action o ∷ unhit.0, rw unhit.1 refl, λ w. grind (arith, unhit.2)))
 
     -- a step, by what the instruction comes to
-    pub early_commit :
-        (r : Decision) → inner_at e.program (length e.memory) c.place c.depth c.count ≡ r →
-        InvAfter e j i ask (in_early_commit (view_of e i) c r)
-    early_commit (Err f) d = faults_kept_lem f (Err f) refl d
-    early_commit (Ok (Goes p depth)) d = performs p depth Nothing (mine own).0 (bare_more (Ok (Goes p depth)) d) (mine own).2
-    early_commit (Ok (Fetches a k)) d = performs (with_reg c.place k (get_or e.memory a 0)) c.depth Nothing (mine own).0 (bare_more (Ok (Fetches a k)) d) (mine own).2
-    early_commit (Ok (Puts a w)) d = performs (past c.place) c.depth (Wrote a w) (mine own).0 (bare_more (Ok (Puts a w)) d) (mine own).2
-    early_commit (Ok (Outputs y)) d =
-        cond_both (ltb 0 e.outlet.room) _ _ (InvAfter e j i ask)
-        (λ _. performs (past c.place) c.depth (Sent y) ((mine own).0 ++ y ∷ []) (bare_more (Ok (Outputs y)) d)
-        (one_more_sent j.taken e.outlet.waiting j.waiting (mine own).0 y (mine own).2))
-        (λ _. go_on e j h i b ask c Nothing Full own refl (mine own).0 (mine own).1 (mine own).2 (h.good i) (h.booked i))
-    early_commit (Ok Closes) d = ends_own Nothing own (rw st refl) (rw st refl) d (bare e.memory) refl
-    early_commit (Ok Restarts) d = faults_kept_lem RetryAfterEarly (Ok Restarts) refl d
-    early_commit (Ok TakesToken) d = performs (past c.place) c.depth Nothing (mine own).0 (bare_more (Ok TakesToken) d) (mine own).2
+    pub early_commit : (r : Decision) → Comes r → InvAfter e t i action (in_early_commit (shared e) i c r)
+    early_commit (Err f) d =
+        finish_free e t h i b action (resting Stopped c.context c.saved) Nothing Kept c.count (Faulted f c.context.pc) (mine own).0
+        (rw (own, eq-eqb i i refl) refl)
+        (rw st refl, unit_from e t h i Kept c.count c.saved _ (rw st refl) (run_bare (Err f) d))
+        (silent own Nothing refl) (tt, refl)
+    early_commit (Ok (Continues o)) d =
+        cond_both (no_room (shared e) o) _ _ (InvAfter e t i action)
+        (λ _. go_on e t h i b action c Nothing Full (mine own).0 own refl (mine own).1 (silent own Nothing refl)
+        (h.good i, h.known i))
+        (λ _. performs (Ok (Continues o)) d (context_after o e.memory c.context) c.depth (effect_of o) refl)
+    early_commit (Ok (Nests depth)) d = performs _ d (past c.context) depth Nothing (rw append-nil refl)
+    early_commit (Ok Closes) d = ending own Nothing (rw st refl) (rw st refl) d (bare e.memory) refl
+    early_commit (Ok Restarts) d = performs _ d (past c.context) c.depth Nothing (rw append-nil refl)
+    early_commit (Ok TakesToken) d = performs _ d (past c.context) c.depth Nothing (rw append-nil refl)

@@ -1,104 +1,100 @@
--- The invariant: what holds of an engine and of what was noted, at every point of a run.
+-- The invariant: what holds of an engine and of its trace, at every point of a run.
 -- Assumes nothing.
-use Rattle.std.proofs.Common.{◌≡◌, ℕ, true, false, List, [], ◌++◌, map, length, Ok}
-use mathlib.Core.Option.{some}
+use Rattle.std.proofs.Common.{◌≡◌, ℕ, ◌≤◌, true, List, [], ◌++◌, map, length, Ok, ◌↔◌}
+use Rattle.std.proofs.Math.Option.{Option, none, some}
+use Rattle.formats.specs.declared.bounds.TheConstants.{MOST_CORES}
 use Rattle.formats.specs.declared.entry.SentEntry.{SentEntry}
 use Rattle.formats.specs.declared.instruction.Instruction.{Instruction}
 use Rattle.model.specs.declared.state.State.{State}
 use Rattle.model.specs.declared.state.State.TheVariants.{Bypass, Transaction, Commit, Abort, EarlyFlush, EarlyCommit, Stopped}
 use Rattle.model.specs.declared.state.Token.{Token}
-use Rattle.model.specs.declared.state.Token.TheVariants.{Free, Core as CoreHas, Host}
-use Rattle.model.specs.declared.place.Line.{Line}
-use Rattle.model.specs.declared.place.Place.{Place}
-use Rattle.model.specs.Instructions.{inner_at}
-use Rattle.model.specs.declared.ask.Inner.TheVariants.{Closes}
-use Rattle.model.specs.OneAtATime.{Scene, Inside, run, Machine, runs}
-use Rattle.model.specs.Lines.{holds, tagged}
+use Rattle.model.specs.declared.state.Token.TheVariants.{Core as CoreHas, Host}
+use Rattle.model.specs.declared.line.Line.{Line}
+use Rattle.model.specs.declared.context.Context.{Context}
+use Rattle.model.specs.Instructions.{decision_at}
+use Rattle.model.specs.declared.action.BlockAction.TheVariants.{Closes}
+use Rattle.model.specs.OneAtATime.{Alone, Inside, run, Machine, runs}
+use Rattle.model.specs.Lines.{has_line, tagged}
 use Rattle.model.specs.Cores.{Core, settle}
 use Rattle.model.specs.Engine.{Engine, core_at}
-use Rattle.model.specs.Journal.{Journal}
-use Rattle.laws.proofs.Books.{Book, has, books}
+use Rattle.model.specs.Blocks.{Move, block, Touched, Taken, Hit}
+use Rattle.model.specs.Traces.{Trace}
 use Rattle.laws.proofs.Lines.{overlay, Fit, Agree}
 
--- a core alone at a place, with a memory and what was sent
-abbrev pub scene : Place → List ℕ → List SentEntry → Scene
-scene p m s = record { place = p; memory = m; sent = s }
+-- a core alone in a context, with a memory and what was sent
+abbrev pub alone : Context → List ℕ → List SentEntry → Alone
+alone x m s = record { context = x; memory = m; sent = s }
 
 -- a core in TRANSACTION: on EVERY memory that agrees with the engine's where its lines are tagged, running as many instructions alone
 -- from where its block began leads to where it is, and leaves that memory with its dirty lines laid over it
 pub record Follows (program : List Instruction) (m : List ℕ) (c : Core) : Type 0 where
   pub fit : Fit m c.lines
-  pub alone :
+  pub leads :
       (m' : List ℕ) (s : List SentEntry) → length m' ≡ length m → Agree c.lines m m' →
-      run program (scene c.saved m' s) c.count ≡ Inside c.depth (scene c.place (overlay c.lines m') s)
+      run program (alone c.saved m' s) c.count ≡ Inside c.depth (alone c.context (overlay c.lines m') s)
 
 -- what holds of a core, by its state
 abbrev pub Good : State → List Instruction → List ℕ → Token → ℕ → Core → Type 0
-Good Bypass program m t i c = Unit {0}
-Good Transaction program m t i c = Follows program m c
-Good Commit program m t i c = t ≡ CoreHas i
-Good Abort program m t i c = Unit {0}
-Good EarlyFlush program m t i c = t ≡ CoreHas i
-Good EarlyCommit program m t i c = t ≡ CoreHas i
-Good Stopped program m t i c = Unit {0}
+Good Transaction program m token i c = Follows program m c
+Good Commit program m token i c = token ≡ CoreHas i
+Good EarlyFlush program m token i c = token ≡ CoreHas i
+Good EarlyCommit program m token i c = token ≡ CoreHas i
+Good _ program m token i c = Unit {0}
 
 -- what holds of the state of the core that has the token
 abbrev pub Holder : State → List Instruction → List ℕ → Core → Type 0
-Holder Bypass program m c = ⊥
-Holder Transaction program m c = ⊥
-Holder Commit program m c = inner_at program (length m) c.place c.depth c.count ≡ (Ok Closes)
-Holder Abort program m c = ⊥
+Holder Commit program m c = decision_at program true (length m) c.context c.depth c.count ≡ Ok Closes
 Holder EarlyFlush program m c = Unit {0}
 Holder EarlyCommit program m c = c.lines ≡ []
-Holder Stopped program m c = ⊥
+Holder _ program m c = ⊥
 
 -- the core that has the token: running as many instructions alone, from where its block began and on what the machine has after the record,
 -- leads to where it is, to the memory with its lines still dirty laid over it, and to what was sent
 pub record Holding (program : List Instruction) (now : Machine) (m : List ℕ) (s : List SentEntry) (c : Core) : Type 0 where
   pub state : Holder c.state program m c
-  pub alone : run program (scene c.saved now.memory now.sent) c.count ≡ Inside c.depth (scene c.place (overlay c.lines m) s)
+  pub leads : run program (alone c.saved now.memory now.sent) c.count ≡ Inside c.depth (alone c.context (overlay c.lines m) s)
 
 -- the entries taken since the clearing, then those waiting, are those waiting at the clearing, then these
-abbrev pub SentIs : Engine → Journal → List SentEntry → Type 0
-SentIs e j s = j.taken ++ e.outlet.waiting ≡ j.waiting ++ s
+abbrev pub SentIs : Engine → Trace → List SentEntry → Type 0
+SentIs e t s = t.taken ++ e.outlet.waiting ≡ t.waiting ++ s
 
--- memory and sent words: the machine's, or those of the unit that has the token
-abbrev pub Shared : Token → Engine → Journal → Machine → Type 0
-Shared Free e j now = (now.memory ≡ e.memory) × SentIs e j now.sent
-Shared (CoreHas k) e j now = (s : List SentEntry) × Holding e.program now e.memory s (core_at e k) × SentIs e j s
-Shared Host e j now = (now.memory ≡ e.memory) × SentIs e j now.sent
+-- memory and sent entries: the machine's, or those of the unit that has the token
+abbrev pub Matches : Token → Engine → Trace → Machine → Type 0
+Matches (CoreHas k) e t now = (s : List SentEntry) × Holding e.program now e.memory s (core_at e k) × SentIs e t s
+Matches _ e t now = (now.memory ≡ e.memory) × SentIs e t now.sent
 
 -- while the host holds, the memory is the machine's after the entries present when the hold began
-abbrev pub HeldIs : Token → Engine → Journal → Type 0
-HeldIs Free e j = Unit {0}
-HeldIs (CoreHas k) e j = Unit {0}
-HeldIs Host e j = (then : Machine) × (runs e.program j.held j.start ≡ some then) × (then.memory ≡ e.memory)
+abbrev pub HeldIs : Token → Engine → Trace → Type 0
+HeldIs Host e t = (then : Machine) × (runs e.program t.held t.start ≡ some then) × (then.memory ≡ e.memory)
+HeldIs _ e t = Unit {0}
 
--- the observer's book of a core in TRANSACTION, by the core's lines
-pub record Tracks (b : Book) (ls : List Line) : Type 0 where
-  pub is_open : b.is_open ≡ true
-  pub hit : b.hit ≡ false
-  pub taken : (a : ℕ) → has a b.taken ≡ tagged ls a
-  pub touched : (a : ℕ) → has a b.touched ≡ holds ls a
+-- what the moves since a core's block began tell of its lines in TRANSACTION
+pub record Tracks (i : ℕ) (ls : List Line) (vs : List Move) : Type 0 where
+  pub unhit : Hit i vs → ⊥
+  pub taken : (a : ℕ) → (tagged ls a ≡ true) ↔ Taken i a vs
+  pub touched : (a : ℕ) → (has_line ls a ≡ true) ↔ Touched i a vs
 
--- the observer's book of a core, by its state
-abbrev pub Booked : State → Book → Core → Type 0
-Booked Bypass b c = b.is_open ≡ false
-Booked Transaction b c = Tracks b c.lines
-Booked Commit b c = (b.is_open ≡ true) × (b.hit ≡ false)
-Booked Abort b c = (b.is_open ≡ true) × (b.hit ≡ true)
-Booked EarlyFlush b c = (b.is_open ≡ true) × (b.hit ≡ false)
-Booked EarlyCommit b c = (b.is_open ≡ true) × (b.hit ≡ false)
-Booked Stopped b c = b.is_open ≡ false
+-- a block is open, and of its moves this holds
+abbrev pub Open : Option (List Move) → (List Move → Type 0) → Type 0
+Open b P = (vs : List Move) × (b ≡ some vs) × P vs
+
+-- what an observer knows of a core's block, by the core's state
+abbrev pub Known : State → ℕ → Option (List Move) → Core → Type 0
+Known Bypass i b c = b ≡ none
+Known Transaction i b c = Open b (Tracks i c.lines)
+Known Abort i b c = Open b (Hit i)
+Known Stopped i b c = b ≡ none
+Known _ i b c = Open b (λ vs. Hit i vs → ⊥)
 
 -- the invariant
-pub record Inv (e : Engine) (j : Journal) : Type 0 where
+pub record Inv (e : Engine) (t : Trace) : Type 0 where
+  pub few : length e.cores ≤ MOST_CORES
   -- the machine after the record's entries
   pub now : Machine
-  pub ran : runs e.program e.entries j.start ≡ some now
+  pub ran : runs e.program e.entries t.start ≡ some now
   pub settled : now.cores ≡ map settle e.cores
   pub size : length now.memory ≡ length e.memory
   pub good : (k : ℕ) → Good (core_at e k).state e.program e.memory e.token k (core_at e k)
-  pub booked : (k : ℕ) → Booked (core_at e k).state (books j.moves k) (core_at e k)
-  pub shared : Shared e.token e j now
-  pub held : HeldIs e.token e j
+  pub known : (k : ℕ) → Known (core_at e k).state k (block k t.moves) (core_at e k)
+  pub matches : Matches e.token e t now
+  pub held : HeldIs e.token e t

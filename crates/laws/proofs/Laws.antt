@@ -7,29 +7,37 @@ use Rattle.formats.specs.declared.entry.SentEntry.{SentEntry}
 use Rattle.model.specs.declared.call.Call.{Call}
 use Rattle.model.specs.Engine.{make}
 use Rattle.model.specs.Runs.{plays}
-use Rattle.model.specs.Journal.{Run, more, mores, fresh, history}
-use Rattle.model.specs.Laws.{Serial, RollBack, HeldRead, Observed, Played, Laws}
+use Rattle.model.specs.Traces.{Run, extended, extended_by, fresh, history}
+use Rattle.model.specs.Laws.{Serial, RollBack, HeldRead, Observed, Played, TagsServed, Laws}
 use Rattle.laws.proofs.Calls.{always}
+use Rattle.laws.proofs.Tags.{served}
 use Rattle.laws.proofs.RollBack.{roll_back_at}
 
 pub serial : Serial
-serial s m o cs n = grind (arith, always s m o cs)
+serial s m o cs n = grind (arith, (always s m o cs).0)
 
-pub roll_back_lem : RollBack
-roll_back_lem s m o cs = roll_back_at (history s m o cs) (always s m o cs)
+pub roll_back : RollBack
+roll_back s m o cs = roll_back_at (history s m o cs) (always s m o cs).0
 
-pub held_read_lem : HeldRead
-held_read_lem s m o cs a w p = grind (arith, nat_tests, (always s m o cs).held)
+pub held_read : HeldRead
+held_read s m o cs a w p = grind (arith, nat_tests, (always s m o cs).0.held)
 
 pub observed : Observed
 observed s m o cs c = grind (arith, append-nil {A = SentEntry})
 
-mores_plays : (cs : List Call) (r : Run) → (mores r cs).engine ≡ plays r.engine cs
-mores_plays [] r = refl
-mores_plays (c ∷ cs) r = mores_plays cs (more r c)
+extended_plays : (cs : List Call) (r : Run) → (extended_by r cs).engine ≡ plays r.engine cs
+extended_plays [] r = refl
+extended_plays (c ∷ cs) r = extended_plays cs (extended r c)
 
 pub is_played : Played
-is_played s m o cs = mores_plays cs (fresh (make s m o))
+is_played s m o cs = extended_plays cs (fresh (make s m o))
+
+pub tags_served : TagsServed
+tags_served s m o cs i before =
+    let d = (always s m o cs).1 i in
+    (d, served (history s m o cs).engine i before d)
 
 pub lawful : Laws
-lawful s m o cs n = record { serial = serial s m o (take n cs); roll_back = roll_back_lem s m o (take n cs); held_read = held_read_lem s m o (take n cs); observed = observed s m o (take n cs) }
+lawful s m o cs n =
+    let ds = take n cs in
+    record { serial = serial s m o ds; roll_back = roll_back s m o ds; held_read = held_read s m o ds; observed = observed s m o ds }

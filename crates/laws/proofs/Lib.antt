@@ -1,6 +1,6 @@
 pub mod Lines
-pub mod Books
 pub mod Invariant
+pub mod Blocks
 pub mod Keeps
 pub mod Turns
 pub mod Leaves
@@ -8,9 +8,8 @@ pub mod Plain
 pub mod Decoding
 pub mod Transaction
 pub mod Holder
-pub mod Calls
 pub mod Tags
 pub mod Apart
-pub mod Blocks
+pub mod Calls
 pub mod RollBack
 pub mod Laws
