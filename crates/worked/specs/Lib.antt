@@ -2,4 +2,3 @@ pub mod Packed
 pub mod Examples
 pub mod Witnesses
 pub mod Limits
-pub mod Compared
