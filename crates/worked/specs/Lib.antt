@@ -1,3 +1,4 @@
+pub mod Values
 pub mod Packed
 pub mod Examples
 pub mod Witnesses

@@ -1,0 +1,92 @@
+-- How the examples write the values of the model: one definition for each kind, so that a change of the model's types changes
+-- this file alone.
+--   entry_of, packed_entry                    an entry of the record, and one that is packed
+--   place_of                                  where a core is
+--   at_rest, in_block                         a core of the engine
+--   settled_of, stopped_of, machine_of        the one-at-a-time machine
+--   settings_of, outlet_of                    what an engine is made from
+--   engine_of, engine_with                    a new engine, and one in the middle of a run
+--   word_in                                   what a register of a core holds
+-- Assumes nothing.
+use Rattle.std.specs.Prelude.{ℕ, true, false, List, [], ◌∷◌, replicate}
+use Rattle.formats.specs.Belows.{core_of, count_of}
+use Rattle.formats.specs.declared.register.Register.{Register}
+use Rattle.formats.specs.declared.entry.SentEntry.{SentEntry}
+use Rattle.formats.specs.declared.entry.Mark.{Mark}
+use Rattle.formats.specs.declared.entry.RecordEntry.{RecordEntry}
+use Rattle.formats.specs.declared.instruction.Instruction.{Instruction}
+use Rattle.model.specs.declared.place.Place.{Place}
+use Rattle.model.specs.declared.state.State.TheVariants.{Bypass, Transaction}
+use Rattle.model.specs.declared.state.Token.{Token}
+use Rattle.model.specs.Instructions.{reg}
+use Rattle.model.specs.OneAtATime.{Turn as Entry, Settled, Machine}
+use Rattle.model.specs.Cores.{Core, resting}
+use Rattle.model.specs.Engine.{Outlet, Settings, Engine, make, core_at}
+
+-- an entry of the record
+abbrev pub entry_of : (core : ℕ) → Mark → (count : ℕ) → Entry
+entry_of i m n = record { core = i; mark = m; count = n }
+
+-- an entry of the record that is packed
+abbrev pub packed_entry : (core : ℕ) → Mark → (count : ℕ) → RecordEntry
+packed_entry i m n = record { core = core_of i; mark = m; count = count_of n }
+
+-- where a core is: at a pc, with words in its first three registers
+abbrev pub place_of : (pc : ℕ) → (r0 r1 r2 : ℕ) → Place
+place_of pc a b c = record { pc = pc; registers = a ∷ b ∷ c ∷ replicate 5 0 }
+
+-- a core at the start, outside every block
+abbrev pub at_rest : Core
+at_rest = resting Bypass (place_of 0 0 0 0) (place_of 0 0 0 0)
+
+-- a core at the start, in a block with so many BEGINs open and so many instructions performed
+abbrev pub in_block : (depth count : ℕ) → Core
+in_block d n = record {
+  state = Transaction;
+  place = place_of 0 0 0 0;
+  saved = place_of 0 0 0 0;
+  depth = d;
+  count = n;
+  lines = [];
+}
+
+-- a core between its units: at a pc, with words in its first three registers
+abbrev pub settled_of : (pc : ℕ) → (r0 r1 r2 : ℕ) → Settled
+settled_of pc a b c = record { place = place_of pc a b c; stopped = false }
+
+-- the same, stopped
+abbrev pub stopped_of : (pc : ℕ) → (r0 r1 r2 : ℕ) → Settled
+stopped_of pc a b c = record { place = place_of pc a b c; stopped = true }
+
+-- the one-at-a-time machine: memory, what was sent, and the cores
+abbrev pub machine_of : List ℕ → List SentEntry → List Settled → Machine
+machine_of m s cs = record { memory = m; sent = s; cores = cs }
+
+-- settings: program, entry places, and lines of a core
+abbrev pub settings_of : List Instruction → List ℕ → ℕ → Settings
+settings_of p ps n = record { program = p; places = ps; lines = n }
+
+-- an outlet with nothing waiting and room for some
+abbrev pub outlet_of : ℕ → Outlet
+outlet_of n = record { waiting = []; room = n }
+
+-- a new engine: program, entry places, lines of a core, memory, and the outlet's room
+abbrev pub engine_of : List Instruction → List ℕ → ℕ → List ℕ → ℕ → Engine
+engine_of p ps n m room = make (settings_of p ps n) m (outlet_of room)
+
+-- an engine with one line a core, one word of memory and no room in its outlet: program, cores, token and record
+abbrev pub engine_with : List Instruction → List Core → Token → List Entry → Engine
+engine_with p cs t es = record {
+  program = p;
+  capacity = 1;
+  memory = 0 ∷ [];
+  outlet = outlet_of 0;
+  cores = cs;
+  token = t;
+  entries = es;
+  next = 0;
+}
+
+-- the word in a register of a core
+abbrev pub word_in : Engine → (core : ℕ) → Register → ℕ
+word_in e i r = reg (core_at e i).place.registers r
