@@ -43,10 +43,7 @@ load_program = Set R1 (immediate_of 1) ∷ Sub R1 R0 R1 ∷ Load R2 R1 (immediat
 -- a block that counts the word at 0 up by one
 abbrev pub counter_program : List Instruction
 counter_program =
-    Begin ∷ Load R1 R0 (immediate_of 0)
-    ∷ Set R2 (immediate_of 1) ∷ Add R1 R1 R2
-    ∷ Store R0 R1 (immediate_of 0) ∷ End
-    ∷ Halt ∷ []
+    Begin ∷ Load R1 R0 (immediate_of 0) ∷ Set R2 (immediate_of 1) ∷ Add R1 R1 R2 ∷ Store R0 R1 (immediate_of 0) ∷ End ∷ Halt ∷ []
 
 -- a block that reads two words
 abbrev pub pair_program : List Instruction

@@ -41,14 +41,7 @@ at_rest = resting Bypass (place_of 0 0 0 0) (place_of 0 0 0 0)
 
 -- a core at the start, in a block with so many BEGINs open and so many instructions performed
 abbrev pub in_block : (depth count : ℕ) → Core
-in_block d n = record {
-  state = Transaction;
-  place = place_of 0 0 0 0;
-  saved = place_of 0 0 0 0;
-  depth = d;
-  count = n;
-  lines = [];
-}
+in_block d n = record { state = Transaction; place = place_of 0 0 0 0; saved = place_of 0 0 0 0; depth = d; count = n; lines = [] }
 
 -- a core between its units: at a pc, with words in its first three registers
 abbrev pub settled_of : (pc : ℕ) → (r0 r1 r2 : ℕ) → Settled
@@ -76,16 +69,8 @@ engine_of p ps n m room = make (settings_of p ps n) m (outlet_of room)
 
 -- an engine with one line a core, one word of memory and no room in its outlet: program, cores, token and record
 abbrev pub engine_with : List Instruction → List Core → Token → List Entry → Engine
-engine_with p cs t es = record {
-  program = p;
-  capacity = 1;
-  memory = 0 ∷ [];
-  outlet = outlet_of 0;
-  cores = cs;
-  token = t;
-  entries = es;
-  next = 0;
-}
+engine_with p cs t es =
+    record { program = p; capacity = 1; memory = 0 ∷ []; outlet = outlet_of 0; cores = cs; token = t; entries = es; next = 0 }
 
 -- the word in a register of a core
 abbrev pub word_in : Engine → (core : ℕ) → Register → ℕ

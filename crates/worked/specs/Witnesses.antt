@@ -48,9 +48,7 @@ pub record RollsBack : Type 0 where
   pub opened : is_open (block 1 (counting 13).journal.moves) ≡ true
   pub answer : Says (counting 13).engine (Step 1 ∷ []) (RolledBack ∷ [])
   pub after : is_open (block 1 (run_of counters counter_run).journal.moves) ≡ false
-  pub machine :
-      explained (run_of counters counter_run)
-      ≡ some (machine_of (1 ∷ []) [] (settled_of 6 0 1 1 ∷ settled_of 0 0 0 0 ∷ []))
+  pub machine : explained (run_of counters counter_run) ≡ some (machine_of (1 ∷ []) [] (settled_of 6 0 1 1 ∷ settled_of 0 0 0 0 ∷ []))
 
 -- a block that outgrows its one line
 abbrev pub pair : Engine
@@ -118,17 +116,12 @@ pub record Sends : Type 0 where
       replies sending sending_run
       ≡ answers (Done ∷ Running ∷ Early ∷ Running ∷ Done ∷ Full ∷ []) ++ Taken (Ok word9) ∷ Stepped (Ok Done) ∷ []
   pub taken : (run_of sending sending_run).journal.taken ≡ word9 ∷ []
-  pub machine :
-      explained (run_of sending sending_run)
-      ≡ some (machine_of (5 ∷ []) (word9 ∷ word9 ∷ []) (settled_of 5 0 1 0 ∷ []))
+  pub machine : explained (run_of sending sending_run) ≡ some (machine_of (5 ∷ []) (word9 ∷ word9 ∷ []) (settled_of 5 0 1 0 ∷ []))
 
 -- core 0 counts; the host holds and reads while core 1 would commit and core 0 halts; core 1 counts; the host reads again
 abbrev pub reading_run : List Call
 reading_run =
-    steps_of 0 7
-    ++ Hold ∷ steps_of 1 6 ++ Step 0
-    ∷ Read 0 ∷ Read 1 ∷ GiveBack ∷ steps_of 1 2
-    ++ Hold ∷ Read 0 ∷ []
+    steps_of 0 7 ++ Hold ∷ steps_of 1 6 ++ Step 0 ∷ Read 0 ∷ Read 1 ∷ GiveBack ∷ steps_of 1 2 ++ Hold ∷ Read 0 ∷ []
 
 -- the run after so many of its calls
 abbrev pub reading : ℕ → Run
@@ -140,9 +133,7 @@ pub record ReadsBetween : Type 0 where
   pub present : (reading 15).journal.held ≡ entry_of 0 Completed 6 ∷ []
   pub grown : (reading 15).engine.entries ≡ entry_of 0 Completed 6 ∷ entry_of 0 Completed 1 ∷ []
   pub second : replies (reading 21).engine (Read 0 ∷ []) ≡ Word (Ok 2) ∷ []
-  pub whole :
-      (reading 21).journal.held
-      ≡ entry_of 0 Completed 6 ∷ entry_of 0 Completed 1 ∷ entry_of 1 Completed 6 ∷ []
+  pub whole : (reading 21).journal.held ≡ entry_of 0 Completed 6 ∷ entry_of 0 Completed 1 ∷ entry_of 1 Completed 6 ∷ []
 
 -- all of them
 pub record Witnesses : Type 0 where
