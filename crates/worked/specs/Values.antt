@@ -7,8 +7,11 @@
 --   settings_of, outlet_of                    what an engine is made from
 --   engine_of, engine_with                    a new engine, and one in the middle of a run
 --   word_in                                   what a register of a core holds
+--   run_of, explained, is_open                a run, the machine after its record, and whether a block is open then
+--   taken_of, held_of                         the entries taken, and the record when the latest hold began
 -- Assumes nothing.
-use Rattle.std.specs.Prelude.{ℕ, true, false, List, [], ◌∷◌, replicate}
+use Rattle.std.specs.Prelude.{ℕ, Bool, true, false, List, [], ◌∷◌, replicate}
+use Rattle.std.proofs.Math.Option.{Option, none, some}
 use Rattle.formats.specs.Belows.{core_of, count_of}
 use Rattle.formats.specs.declared.register.Register.{Register}
 use Rattle.formats.specs.declared.entry.SentEntry.{SentEntry}
@@ -18,10 +21,13 @@ use Rattle.formats.specs.declared.instruction.Instruction.{Instruction}
 use Rattle.model.specs.declared.place.Place.{Place}
 use Rattle.model.specs.declared.state.State.TheVariants.{Bypass, Transaction}
 use Rattle.model.specs.declared.state.Token.{Token}
+use Rattle.model.specs.declared.call.Call.{Call}
 use Rattle.model.specs.Instructions.{reg}
-use Rattle.model.specs.OneAtATime.{Turn as Entry, Settled, Machine}
+use Rattle.model.specs.OneAtATime.{Turn as Entry, Settled, Machine, runs}
 use Rattle.model.specs.Cores.{Core, resting}
 use Rattle.model.specs.Engine.{Outlet, Settings, Engine, make, core_at}
+use Rattle.model.specs.Blocks.{Move, block}
+use Rattle.model.specs.Journal.{Run, mores, fresh}
 
 -- an entry of the record
 abbrev pub entry_of : (core : ℕ) → Mark → (count : ℕ) → Entry
@@ -75,3 +81,28 @@ engine_with p cs t es =
 -- the word in a register of a core
 abbrev pub word_in : Engine → (core : ℕ) → Register → ℕ
 word_in e i r = reg (core_at e i).place.registers r
+
+-- the run of an engine through a list of calls
+abbrev pub run_of : Engine → List Call → Run
+run_of e cs = mores (fresh e) cs
+
+-- the one-at-a-time machine after the record
+abbrev pub explained : Run → Option Machine
+explained r = runs r.engine.program r.engine.entries r.journal.start
+
+-- is there a block?
+abbrev pub there_is : Option (List Move) → Bool
+there_is none = false
+there_is (some vs) = true
+
+-- has a core a block open?
+abbrev pub is_open : (core : ℕ) → Run → Bool
+is_open i r = there_is (block i r.journal.moves)
+
+-- the entries taken from the outlet
+abbrev pub taken_of : Run → List SentEntry
+taken_of r = r.journal.taken
+
+-- the record when the latest hold began
+abbrev pub held_of : Run → List Entry
+held_of r = r.journal.held

@@ -3,8 +3,8 @@
 --   RollsBack, CommitsEarly, FaultsPlain, FaultsDiscarded, FaultsKept, Sends, ReadsBetween    one run each
 --   Witnesses                                                                                 all of them
 -- Assumes nothing.
-use Rattle.std.specs.Prelude.{◌≡◌, ℕ, Bool, true, false, List, [], ◌∷◌, ◌++◌, take, Ok}
-use Rattle.std.proofs.Math.Option.{Option, none, some}
+use Rattle.std.specs.Prelude.{◌≡◌, ℕ, true, false, List, [], ◌∷◌, ◌++◌, take, Ok}
+use Rattle.std.proofs.Math.Option.{some}
 use Rattle.formats.specs.Belows.{immediate_of, channel_of}
 use Rattle.formats.specs.Sents.{sent_word}
 use Rattle.formats.specs.declared.register.Register.TheVariants.{R0, R1}
@@ -17,26 +17,11 @@ use Rattle.answers.specs.declared.answer.Answer.TheVariants.{Running, Waiting, D
 use Rattle.model.specs.declared.call.Call.{Call}
 use Rattle.model.specs.declared.call.Call.TheVariants.{Step, Hold, Read, GiveBack, Take}
 use Rattle.model.specs.declared.call.Reply.TheVariants.{Stepped, Word, Taken}
-use Rattle.model.specs.OneAtATime.{Machine, runs}
 use Rattle.model.specs.Engine.{Engine}
 use Rattle.model.specs.Runs.{replies}
-use Rattle.model.specs.Blocks.{Move, block}
-use Rattle.model.specs.Journal.{Run, mores, fresh}
-use Rattle.worked.specs.Values.{entry_of, settled_of, stopped_of, machine_of, engine_of}
+use Rattle.model.specs.Journal.{Run}
+use Rattle.worked.specs.Values.{entry_of, settled_of, stopped_of, machine_of, engine_of, run_of, explained, is_open, taken_of, held_of}
 use Rattle.worked.specs.Examples.{steps_of, answers, Says, pair_program, alone, counters, counter_run}
-
--- the run of an engine through a list of calls
-abbrev pub run_of : Engine → List Call → Run
-run_of e cs = mores (fresh e) cs
-
--- the one-at-a-time machine after the record
-abbrev pub explained : Run → Option Machine
-explained r = runs r.engine.program r.engine.entries r.journal.start
-
--- is a block open?
-abbrev pub is_open : Option (List Move) → Bool
-is_open none = false
-is_open (some vs) = true
 
 -- the two cores that count, after so many calls of their run
 abbrev pub counting : ℕ → Run
@@ -45,9 +30,9 @@ counting n = run_of counters (take n counter_run)
 -- core 1 waits with its block open; core 0 writes the word that this block has taken; core 1 rolls back, and its block is closed
 pub record RollsBack : Type 0 where
   pub before : Says (counting 12).engine (Step 1 ∷ []) (Waiting ∷ [])
-  pub opened : is_open (block 1 (counting 13).journal.moves) ≡ true
+  pub opened : is_open 1 (counting 13) ≡ true
   pub answer : Says (counting 13).engine (Step 1 ∷ []) (RolledBack ∷ [])
-  pub after : is_open (block 1 (run_of counters counter_run).journal.moves) ≡ false
+  pub after : is_open 1 (run_of counters counter_run) ≡ false
   pub machine : explained (run_of counters counter_run) ≡ some (machine_of (1 ∷ []) [] (settled_of 6 0 1 1 ∷ settled_of 0 0 0 0 ∷ []))
 
 -- a block that outgrows its one line
@@ -115,7 +100,7 @@ pub record Sends : Type 0 where
   pub answer :
       replies sending sending_run
       ≡ answers (Done ∷ Running ∷ Early ∷ Running ∷ Done ∷ Full ∷ []) ++ Taken (Ok word9) ∷ Stepped (Ok Done) ∷ []
-  pub taken : (run_of sending sending_run).journal.taken ≡ word9 ∷ []
+  pub taken : taken_of (run_of sending sending_run) ≡ word9 ∷ []
   pub machine : explained (run_of sending sending_run) ≡ some (machine_of (5 ∷ []) (word9 ∷ word9 ∷ []) (settled_of 5 0 1 0 ∷ []))
 
 -- core 0 counts; the host holds and reads while core 1 would commit and core 0 halts; core 1 counts; the host reads again
@@ -130,10 +115,10 @@ reading n = run_of counters (take n reading_run)
 -- the reads answer the words between the commits, though the record grows during the first hold
 pub record ReadsBetween : Type 0 where
   pub first : replies (reading 15).engine (Read 0 ∷ []) ≡ Word (Ok 1) ∷ []
-  pub present : (reading 15).journal.held ≡ entry_of 0 Completed 6 ∷ []
+  pub present : held_of (reading 15) ≡ entry_of 0 Completed 6 ∷ []
   pub grown : (reading 15).engine.entries ≡ entry_of 0 Completed 6 ∷ entry_of 0 Completed 1 ∷ []
   pub second : replies (reading 21).engine (Read 0 ∷ []) ≡ Word (Ok 2) ∷ []
-  pub whole : (reading 21).journal.held ≡ entry_of 0 Completed 6 ∷ entry_of 0 Completed 1 ∷ entry_of 1 Completed 6 ∷ []
+  pub whole : held_of (reading 21) ≡ entry_of 0 Completed 6 ∷ entry_of 0 Completed 1 ∷ entry_of 1 Completed 6 ∷ []
 
 -- all of them
 pub record Witnesses : Type 0 where
