@@ -2,7 +2,6 @@ pub mod Asks
 pub mod Bounds
 pub mod Buffers
 pub mod Decisions
-pub mod Scenes
 pub mod Steps
 pub mod Tags
 pub mod Units

@@ -3,39 +3,14 @@ ghost use Rattle.std.specs.Prelude.{◌≡◌, ◌+◌, ◌<◌, ◌≤◌, true
 ghost use Rattle.formats.specs.Sents.{sent_word};
 ghost use Rattle.program.specs.Accepted.{target_inside, ends};
 ghost use Rattle.model.specs.Instructions.{reg, put_reg, onward, past, jumped, meaning};
-ghost use Rattle.cores.specs.Asks.{ask_of, Onward};
+ghost use Rattle.cores.specs.Asks.{Onward};
 
 use formats::below::{Channel, Immediate};
 use formats::entry::SentEntry;
 use formats::instruction::Instruction;
 use formats::register::Register;
+use model::ask::Ask;
 use model::place::Place;
-
-// What is asked of memory or outlet.
-#[derive(Clone, Copy)]
-pub enum Access {
-    // the word at an address, for register d
-    Load { address: usize, d: Register },
-    // that the word at an address becomes this one
-    Store { address: usize, word: u32 },
-    // that an entry is sent
-    Send(SentEntry),
-}
-
-// What an instruction asks for; all but Moves go on with the next instruction.
-#[derive(Clone, Copy)]
-pub enum Ask {
-    // only pc and registers change, to these
-    Moves(Place),
-    // memory or outlet
-    Accesses(Access),
-    // to open a block, to close one, to stop, to restart the block, to take the token now
-    Begins,
-    Ends,
-    Halts,
-    Retries,
-    Earlies,
-}
 
 // The word in a register.
 fn read(place: &Place, register: Register) -> u32
@@ -100,51 +75,45 @@ fn sent(channel: Channel, word: u32) -> SentEntry
     SentEntry { channel, word }
 }
 
-impl Ask {
-    // What an instruction of a program asks for at its place.
-    pub(crate) fn of(instruction: Instruction, place: Place) -> Ask
-        requires targets { target_inside 512 instruction ≡ true }
-        requires onward { ends instruction ≡ false → place.pc < 511 }
-        ensures value { ask_of place result ≡ meaning instruction place }
-        ensures onward { Onward place result }
-    {
-        match instruction {
-            Instruction::Halt => Ask::Halts,
-            Instruction::Set { d, n } => Ask::Moves(put(place, d, n.value())),
-            Instruction::Add { d, a, b } => {
-                let sum = read(&place, a).wrapping_add(read(&place, b));
-                Ask::Moves(put(place, d, sum))
-            }
-            Instruction::Sub { d, a, b } => {
-                let difference = read(&place, a).wrapping_sub(read(&place, b));
-                Ask::Moves(put(place, d, difference))
-            }
-            Instruction::Mean { d, a, b } => {
-                let sum = u64::from(read(&place, a)) + u64::from(read(&place, b));
-                Ask::Moves(put(place, d, (sum / 2) as u32))
-            }
-            Instruction::Load { d, a, n } => Ask::Accesses(Access::Load {
-                address: address(&place, a, n),
-                d,
-            }),
-            Instruction::Store { a, b, n } => Ask::Accesses(Access::Store {
-                address: address(&place, a, n),
-                word: read(&place, b),
-            }),
-            Instruction::Jump { n } => Ask::Moves(jump(place, n.value())),
-            Instruction::Jz { a, n } => {
-                Ask::Moves(branch(place, read(&place, a) == 0, n.value()))
-            }
-            Instruction::Jlt { a, b, n } => {
-                Ask::Moves(branch(place, read(&place, a) < read(&place, b), n.value()))
-            }
-            Instruction::Begin => Ask::Begins,
-            Instruction::End => Ask::Ends,
-            Instruction::Retry => Ask::Retries,
-            Instruction::Early => Ask::Earlies,
-            Instruction::Out { a, channel } => {
-                Ask::Accesses(Access::Send(sent(channel, read(&place, a))))
-            }
+// What an instruction of a program asks for at its place.
+pub(crate) fn meaning(instruction: Instruction, place: Place) -> Ask
+    requires targets { target_inside 512 instruction ≡ true }
+    requires onward { ends instruction ≡ false → place.pc < 511 }
+    ensures value { result ≡ meaning instruction place }
+    ensures onward { Onward place result }
+{
+    match instruction {
+        Instruction::Halt => Ask::Halts,
+        Instruction::Set { d, n } => Ask::Moves(put(place, d, n.value())),
+        Instruction::Add { d, a, b } => {
+            let sum = read(&place, a).wrapping_add(read(&place, b));
+            Ask::Moves(put(place, d, sum))
         }
+        Instruction::Sub { d, a, b } => {
+            let difference = read(&place, a).wrapping_sub(read(&place, b));
+            Ask::Moves(put(place, d, difference))
+        }
+        Instruction::Mean { d, a, b } => {
+            let sum = u64::from(read(&place, a)) + u64::from(read(&place, b));
+            Ask::Moves(put(place, d, (sum / 2) as u32))
+        }
+        Instruction::Load { d, a, n } => Ask::Loads {
+            address: address(&place, a, n),
+            d,
+        },
+        Instruction::Store { a, b, n } => Ask::Stores {
+            address: address(&place, a, n),
+            word: read(&place, b),
+        },
+        Instruction::Jump { n } => Ask::Moves(jump(place, n.value())),
+        Instruction::Jz { a, n } => { Ask::Moves(branch(place, read(&place, a) == 0, n.value())) }
+        Instruction::Jlt { a, b, n } => {
+            Ask::Moves(branch(place, read(&place, a) < read(&place, b), n.value()))
+        }
+        Instruction::Begin => Ask::Begins,
+        Instruction::End => Ask::Ends,
+        Instruction::Retry => Ask::Retries,
+        Instruction::Early => Ask::Earlies,
+        Instruction::Out { a, channel } => { Ask::Sends(sent(channel, read(&place, a))) }
     }
 }

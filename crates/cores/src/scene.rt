@@ -8,15 +8,11 @@ use formats::entry::RecordEntry;
 use model::effect::Effect;
 use model::state::Token;
 
-// The rest of the engine, as a step of a core sees it.
+// The rest of the engine besides program and memory, as a step of a core sees it.
 #[derive(Clone, Copy, PartialEq, Eq, Debug)]
 pub struct Scene {
     // how many lines a core has
     pub capacity: usize,
-    // how many words the memory has
-    pub words: usize,
-    // the word at the address that the core's instruction would load
-    pub word: u32,
     // how many entries find room in the outlet
     pub room: usize,
     // who has the commit token

@@ -1,1 +1,2 @@
+mod Hosts
 pub mod Playing

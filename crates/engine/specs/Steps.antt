@@ -1,42 +1,22 @@
 -- A step of the engine in two parts: one core moves, and then the rest of the engine takes what it came to.
---   scene_of  what the step sees;  with_core  the engine once the core has moved;  Moved  what the move came to
+--   with_core  the engine once the core has moved;  Moved  what the move came to
 --   applied   the engine once it has taken the effect, the token and the entry
 -- Assumes nothing.
-use Rattle.std.specs.Prelude.{◌≡◌, ℕ, List, length, replicate, slice_index, slice_set}
+use Rattle.std.specs.Prelude.{◌≡◌, ℕ, List, slice_set}
 use Rattle.memory.specs.Shared.{written}
 use Rattle.outlet.specs.Waiting.{sent, room_sent}
 use Rattle.model.specs.declared.effect.Effect.{Effect}
 use Rattle.model.specs.declared.effect.Effect.TheVariants.{Nothing, Wrote, Sent}
-use Rattle.model.specs.Cores.{Core, View, Outcome as ModelOutcome}
-use Rattle.model.specs.Engine.{Engine, Outlet, core_at}
+use Rattle.model.specs.Cores.{Core, Outcome as ModelOutcome}
+use Rattle.model.specs.Engine.{Engine, Outlet}
 use Rattle.cores.specs.declared.scene.Outcome.{Outcome}
-use Rattle.cores.specs.Units.{entries_of, load_address}
+use Rattle.cores.specs.Units.{entries_of}
 use Rattle.bank.specs.Logs.{recorded}
 use Rattle.bank.specs.Tables.{others_hit}
 
--- what a step of a core sees: of the memory's words, the one that its instruction would load
-abbrev pub scene_of : Engine → ℕ → View
-scene_of e i = record {
-  program = e.program;
-  capacity = e.capacity;
-  memory = replicate (length e.memory) (slice_index e.memory (load_address e.program (core_at e i).place));
-  room = e.outlet.room;
-  token = e.token;
-  self = i;
-}
-
 -- the engine with another core in a place
 abbrev pub with_core : Engine → ℕ → Core → Engine
-with_core e i c = record {
-  program = e.program;
-  capacity = e.capacity;
-  memory = e.memory;
-  outlet = e.outlet;
-  cores = slice_set e.cores i c;
-  token = e.token;
-  entries = e.entries;
-  next = e.next;
-}
+with_core e i c = record e { cores = slice_set e.cores i c }
 
 -- a core has moved to what its step comes to, and the rest of that is still to be taken
 pub record Moved (before after : Engine) (i : ℕ) (r : Outcome) (o : ModelOutcome) : Type 0 where
@@ -64,13 +44,10 @@ cores_applied (Sent x) i cs = cs
 
 -- the engine once it has taken what a core's move came to
 abbrev pub applied : Engine → ℕ → Outcome → Engine
-applied e i r = record {
-  program = e.program;
-  capacity = e.capacity;
+applied e i r = record e {
   memory = memory_applied r.effect e.memory;
   outlet = outlet_applied r.effect e.outlet;
   cores = cores_applied r.effect i e.cores;
   token = r.token;
   entries = recorded e.entries r.entry;
-  next = e.next;
 }

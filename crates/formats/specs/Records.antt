@@ -23,6 +23,10 @@ mark_at n = cond (n == 0) Completed (cond (n == 1) Discarded Kept)
 abbrev pub mark_from : ℕ → Result Mark EntryFault
 mark_from n = cond (nat_le n 2) (Ok (mark_at n)) (Err OutOfRange)
 
+-- the entry of a core's number, a mark and a count, each number cut to its field
+abbrev pub entry : ℕ → Mark → ℕ → RecordEntry
+entry i mark n = record { core = core_of i; mark = mark; count = count_of n }
+
 -- an entry's word
 abbrev pub record_word : RecordEntry → ℕ
 record_word e = e.core.value * 536870912 + mark_number e.mark * 134217728 + e.count.value
@@ -34,7 +38,7 @@ in_range w = nat_le (w / 134217728 % 4) 2 && w / 65536 % 2048 == 0 && nat_le (w 
 -- what a word unpacks to
 abbrev pub word_record : ℕ → Result RecordEntry EntryFault
 word_record w =
-    cond (in_range w) (Ok (record { core = core_of (w / 536870912); mark = mark_at (w / 134217728 % 4); count = count_of (w % 65536) })) (Err OutOfRange)
+    cond (in_range w) (Ok (entry (w / 536870912) (mark_at (w / 134217728 % 4)) (w % 65536))) (Err OutOfRange)
 
 -- the same over four bytes
 abbrev pub record_bytes : RecordEntry → List ℕ

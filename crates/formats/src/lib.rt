@@ -2,6 +2,7 @@
 #![tactic(auto)]
 
 pub mod below;
+pub mod bounds;
 pub mod entry;
 pub mod instruction;
 mod mark;

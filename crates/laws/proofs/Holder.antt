@@ -1,6 +1,6 @@
 -- Steps of the core that has the token: COMMIT, EARLY_FLUSH and EARLY_COMMIT.
 -- Assumes nothing.
-use Rattle.std.proofs.Common.{◌≡◌, ℕ, suc, ◌<◌, true, false, ltb, List, [], ◌∷◌, ◌++◌, length, get_or, sym, refl, ◌∙◌, arith}
+use Rattle.std.proofs.Common.{◌≡◌, ℕ, suc, ◌<◌, true, false, ltb, List, [], ◌∷◌, ◌++◌, length, get_or, sym, refl, ◌∙◌, arith, Ok, Err}
 use mathlib.Core.Option.{some}
 use Rattle.std.proofs.lemmas.Bool.{cond_both, eq-eqb}
 use Rattle.answers.specs.declared.answer.Fault.{Fault}
@@ -11,8 +11,10 @@ use Rattle.formats.specs.declared.entry.SentEntry.{SentEntry}
 use Rattle.model.specs.declared.state.State.TheVariants.{Bypass, Commit, EarlyFlush, EarlyCommit, Stopped}
 use Rattle.model.specs.declared.state.Token.TheVariants.{Free, Core as CoreHas}
 use Rattle.model.specs.declared.place.Place.{Place}
-use Rattle.model.specs.Instructions.{Ask, onward, past, inner_at}
-use Rattle.model.specs.Instructions.{Inner, InnerFaults, InnerMoves, InnerLoads, InnerStores, InnerSends, Closes, Restarts, TakesToken}
+use Rattle.model.specs.Instructions.{with_reg, past, inner_at}
+use Rattle.model.specs.declared.ask.Ask.{Ask}
+use Rattle.model.specs.Instructions.{Decision}
+use Rattle.model.specs.declared.ask.Inner.TheVariants.{Goes, Fetches, Puts, Outputs, Closes, Restarts, TakesToken}
 use Rattle.model.specs.OneAtATime.{Inside, further, faults_further, run}
 use Rattle.model.specs.declared.place.Line.{Line}
 use Rattle.model.specs.declared.effect.Effect.{Effect}
@@ -55,7 +57,7 @@ module _ (e : Engine) (j : Journal) (h : Inv e j) (i : ℕ) (b : i < length e.co
 
   -- the next instruction of the block, alone
   held_more :
-      (own : e.token ≡ CoreHas i) (r : Inner) → inner_at e.program (length e.memory) c.place c.depth c.count ≡ r →
+      (own : e.token ≡ CoreHas i) (r : Decision) → inner_at e.program (length e.memory) c.place c.depth c.count ≡ r →
       run e.program (scene c.saved h.now.memory h.now.sent) (suc c.count)
       ≡ further c.depth (scene c.place (overlay c.lines e.memory) (mine own).0) r
   held_more own r d = rw ((mine own).1.alone, length_overlay c.lines e.memory, d) refl
@@ -63,7 +65,7 @@ module _ (e : Engine) (j : Journal) (h : Inv e j) (i : ℕ) (b : i < length e.co
   -- the block ends with a last effect that writes what is still dirty
   ends_own :
       (x : Effect) (own : e.token ≡ CoreHas i) → settled_place c.state c ≡ c.saved → settled_stopped c.state ≡ false →
-      inner_at e.program (length e.memory) c.place c.depth c.count ≡ Closes →
+      inner_at e.program (length e.memory) c.place c.depth c.count ≡ (Ok Closes) →
       overlay c.lines e.memory ≡ memory_after x e.memory → outlet_after x e.outlet ≡ e.outlet →
       InvAfter e j i ask (ends (view_of e i) c x)
   ends_own x own place alive d m o =
@@ -73,7 +75,7 @@ module _ (e : Engine) (j : Journal) (h : Inv e j) (i : ℕ) (b : i < length e.co
         alive = alive;
         memory = overlay c.lines e.memory;
         sent = (mine own).0;
-        is = unit_from e j h i Completed (suc c.count) c.saved _ place (held_more own Closes d);
+        is = unit_from e j h i Completed (suc c.count) c.saved _ place (held_more own (Ok Closes) d);
       })
       m (rw o (mine own).2) tt refl
 
@@ -82,7 +84,7 @@ module _ (e : Engine) (j : Journal) (h : Inv e j) (i : ℕ) (b : i < length e.co
   commit st =
       let own : e.token ≡ CoreHas i = rw st at (h.good i) in
       let book : ((books j.moves i).is_open ≡ true) × ((books j.moves i).hit ≡ false) = rw st at (h.booked i) in
-      let d : inner_at e.program (length e.memory) c.place c.depth c.count ≡ Closes = rw st at (mine own).1.state in
+      let d : inner_at e.program (length e.memory) c.place c.depth c.count ≡ (Ok Closes) = rw st at (mine own).1.state in
       let m = memory_after (wrote c.lines) e.memory in
       cond_both (any_dirty (left c.lines)) _ _ (InvAfter e j i ask)
       (λ _. go_on e j h i b ask (turned_to c Commit (left c.lines)) (wrote c.lines) Committing own (rw st refl) (mine own).0
@@ -138,12 +140,12 @@ module _ (e : Engine) (j : Journal) (h : Inv e j) (i : ℕ) (b : i < length e.co
 
     -- the block's run with one more instruction, with no lines left
     bare_more :
-        (r : Inner) → inner_at e.program (length e.memory) c.place c.depth c.count ≡ r →
+        (r : Decision) → inner_at e.program (length e.memory) c.place c.depth c.count ≡ r →
         run e.program (scene c.saved h.now.memory h.now.sent) (suc c.count) ≡ further c.depth (scene c.place e.memory (mine own).0) r
     bare_more r d = rw (bare e.memory) at (held_more own r d)
 
     -- the block faults, and what it wrote and sent stays
-    faults_kept_lem : (f : Fault) (r : Inner) → faults_further (scene c.place (overlay c.lines e.memory) (mine own).0) r ≡ some (scene c.place (overlay c.lines e.memory) (mine own).0) →
+    faults_kept_lem : (f : Fault) (r : Decision) → faults_further (scene c.place (overlay c.lines e.memory) (mine own).0) r ≡ some (scene c.place (overlay c.lines e.memory) (mine own).0) →
         inner_at e.program (length e.memory) c.place c.depth c.count ≡ r →
         InvAfter e j i ask (faulted (view_of e i) c Kept c.count f)
     faults_kept_lem f r q d =
@@ -159,17 +161,17 @@ module _ (e : Engine) (j : Journal) (h : Inv e j) (i : ℕ) (b : i < length e.co
 
     -- a step, by what the instruction comes to
     pub early_commit :
-        (r : Inner) → inner_at e.program (length e.memory) c.place c.depth c.count ≡ r →
+        (r : Decision) → inner_at e.program (length e.memory) c.place c.depth c.count ≡ r →
         InvAfter e j i ask (in_early_commit (view_of e i) c r)
-    early_commit (InnerFaults f) d = faults_kept_lem f (InnerFaults f) refl d
-    early_commit (InnerMoves p depth) d = performs p depth Nothing (mine own).0 (bare_more (InnerMoves p depth) d) (mine own).2
-    early_commit (InnerLoads a k) d = performs (onward c.place (k (get_or e.memory a 0))) c.depth Nothing (mine own).0 (bare_more (InnerLoads a k) d) (mine own).2
-    early_commit (InnerStores a w) d = performs (past c.place) c.depth (Wrote a w) (mine own).0 (bare_more (InnerStores a w) d) (mine own).2
-    early_commit (InnerSends y) d =
+    early_commit (Err f) d = faults_kept_lem f (Err f) refl d
+    early_commit (Ok (Goes p depth)) d = performs p depth Nothing (mine own).0 (bare_more (Ok (Goes p depth)) d) (mine own).2
+    early_commit (Ok (Fetches a k)) d = performs (with_reg c.place k (get_or e.memory a 0)) c.depth Nothing (mine own).0 (bare_more (Ok (Fetches a k)) d) (mine own).2
+    early_commit (Ok (Puts a w)) d = performs (past c.place) c.depth (Wrote a w) (mine own).0 (bare_more (Ok (Puts a w)) d) (mine own).2
+    early_commit (Ok (Outputs y)) d =
         cond_both (ltb 0 e.outlet.room) _ _ (InvAfter e j i ask)
-        (λ _. performs (past c.place) c.depth (Sent y) ((mine own).0 ++ y ∷ []) (bare_more (InnerSends y) d)
+        (λ _. performs (past c.place) c.depth (Sent y) ((mine own).0 ++ y ∷ []) (bare_more (Ok (Outputs y)) d)
         (one_more_sent j.taken e.outlet.waiting j.waiting (mine own).0 y (mine own).2))
         (λ _. go_on e j h i b ask c Nothing Full own refl (mine own).0 (mine own).1 (mine own).2 (h.good i) (h.booked i))
-    early_commit Closes d = ends_own Nothing own (rw st refl) (rw st refl) d (bare e.memory) refl
-    early_commit Restarts d = faults_kept_lem RetryAfterEarly Restarts refl d
-    early_commit TakesToken d = performs (past c.place) c.depth Nothing (mine own).0 (bare_more TakesToken d) (mine own).2
+    early_commit (Ok Closes) d = ends_own Nothing own (rw st refl) (rw st refl) d (bare e.memory) refl
+    early_commit (Ok Restarts) d = faults_kept_lem RetryAfterEarly (Ok Restarts) refl d
+    early_commit (Ok TakesToken) d = performs (past c.place) c.depth Nothing (mine own).0 (bare_more (Ok TakesToken) d) (mine own).2

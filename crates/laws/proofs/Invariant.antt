@@ -1,6 +1,6 @@
 -- The invariant: what holds of an engine and of what was noted, at every point of a run.
 -- Assumes nothing.
-use Rattle.std.proofs.Common.{◌≡◌, ℕ, true, false, List, [], ◌++◌, map, length}
+use Rattle.std.proofs.Common.{◌≡◌, ℕ, true, false, List, [], ◌++◌, map, length, Ok}
 use mathlib.Core.Option.{some}
 use Rattle.formats.specs.declared.entry.SentEntry.{SentEntry}
 use Rattle.formats.specs.declared.instruction.Instruction.{Instruction}
@@ -10,7 +10,8 @@ use Rattle.model.specs.declared.state.Token.{Token}
 use Rattle.model.specs.declared.state.Token.TheVariants.{Free, Core as CoreHas, Host}
 use Rattle.model.specs.declared.place.Line.{Line}
 use Rattle.model.specs.declared.place.Place.{Place}
-use Rattle.model.specs.Instructions.{Closes, inner_at}
+use Rattle.model.specs.Instructions.{inner_at}
+use Rattle.model.specs.declared.ask.Inner.TheVariants.{Closes}
 use Rattle.model.specs.OneAtATime.{Scene, Inside, run, Machine, runs}
 use Rattle.model.specs.Lines.{holds, tagged}
 use Rattle.model.specs.Cores.{Core, settle}
@@ -45,7 +46,7 @@ Good Stopped program m t i c = Unit {0}
 abbrev pub Holder : State → List Instruction → List ℕ → Core → Type 0
 Holder Bypass program m c = ⊥
 Holder Transaction program m c = ⊥
-Holder Commit program m c = inner_at program (length m) c.place c.depth c.count ≡ Closes
+Holder Commit program m c = inner_at program (length m) c.place c.depth c.count ≡ (Ok Closes)
 Holder Abort program m c = ⊥
 Holder EarlyFlush program m c = Unit {0}
 Holder EarlyCommit program m c = c.lines ≡ []

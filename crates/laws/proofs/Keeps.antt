@@ -9,7 +9,7 @@ use Rattle.formats.specs.declared.entry.SentEntry.{SentEntry}
 use Rattle.formats.specs.declared.instruction.Instruction.{Instruction}
 use Rattle.model.specs.declared.state.Token.{Token}
 use Rattle.model.specs.declared.state.Token.TheVariants.{Free, Core as CoreHas, Host}
-use Rattle.model.specs.Instructions.{Ask}
+use Rattle.model.specs.declared.ask.Ask.{Ask}
 use Rattle.model.specs.OneAtATime.{Machine, runs}
 use Rattle.model.specs.declared.effect.Effect.{Effect}
 use Rattle.model.specs.declared.effect.Effect.TheVariants.{Nothing, Wrote, Sent}

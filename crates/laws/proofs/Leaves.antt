@@ -9,7 +9,7 @@ use Rattle.formats.specs.declared.entry.Mark.{Mark}
 use Rattle.formats.specs.declared.entry.SentEntry.{SentEntry}
 use Rattle.model.specs.declared.state.Token.{Token}
 use Rattle.model.specs.declared.state.Token.TheVariants.{Free, Core as CoreHas}
-use Rattle.model.specs.Instructions.{Ask}
+use Rattle.model.specs.declared.ask.Ask.{Ask}
 use Rattle.model.specs.declared.place.Place.{Place}
 use Rattle.model.specs.OneAtATime.{Machine, Progress, no_core, run, unit}
 use Rattle.model.specs.declared.effect.Effect.{Effect}

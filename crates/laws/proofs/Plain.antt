@@ -12,7 +12,8 @@ use Rattle.model.specs.declared.state.State.TheVariants.{Bypass, Transaction, Ab
 use Rattle.model.specs.declared.state.Token.{Token}
 use Rattle.model.specs.declared.state.Token.TheVariants.{Free}
 use Rattle.model.specs.declared.place.Place.{Place}
-use Rattle.model.specs.Instructions.{Ask, onward, past, Outer, OuterFaults, OuterMoves, OuterLoads, OuterStores, OuterSends, Opens, Stops, outer_at}
+use Rattle.model.specs.Instructions.{with_reg, past, Outer, OuterFaults, OuterMoves, OuterLoads, OuterStores, OuterSends, Opens, Stops, outer_at}
+use Rattle.model.specs.declared.ask.Ask.{Ask}
 use Rattle.model.specs.OneAtATime.{run, unit}
 use Rattle.model.specs.declared.effect.Effect.{Effect}
 use Rattle.model.specs.declared.effect.Effect.TheVariants.{Nothing, Wrote, Sent}
@@ -92,7 +93,7 @@ module _ (e : Engine) (j : Journal) (h : Inv e j) (i : ℕ) (b : i < length e.co
       once_free e j h i b ask _ not_i
       (λ f.
       let w = when_free e j h f in
-      plain_free (onward (core_at e i).place (k (get_or e.memory a 0))) Nothing h.now.sent f (rw (st, w.0, d) refl) w.1)
+      plain_free (with_reg (core_at e i).place k (get_or e.memory a 0)) Nothing h.now.sent f (rw (st, w.0, d) refl) w.1)
   bypass (OuterStores a v) d =
       once_free e j h i b ask _ not_i
       (λ f.

@@ -5,7 +5,7 @@ use Rattle.answers.specs.declared.answer.Answer.{Answer}
 use Rattle.answers.specs.declared.answer.Answer.TheVariants.{RolledBack}
 use Rattle.model.specs.declared.state.State.{State}
 use Rattle.model.specs.declared.call.Call.{Call}
-use Rattle.model.specs.Instructions.{Ask}
+use Rattle.model.specs.declared.ask.Ask.{Ask}
 use Rattle.model.specs.declared.effect.Effect.{Effect}
 use Rattle.model.specs.Cores.{Core, View, step_by_state}
 use Rattle.model.specs.Engine.{Engine, core_at, view_of}

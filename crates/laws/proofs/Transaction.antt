@@ -1,6 +1,6 @@
 -- Steps of a core in TRANSACTION.
 -- Assumes nothing.
-use Rattle.std.proofs.Common.{◌≡◌, ℕ, suc, ◌<◌, true, false, ltb, List, [], ◌∷◌, ◌++◌, length, get_or, sym, refl, ap, ◌∙◌, subst, arith}
+use Rattle.std.proofs.Common.{◌≡◌, ℕ, suc, ◌<◌, true, false, ltb, List, [], ◌∷◌, ◌++◌, length, get_or, sym, refl, ap, ◌∙◌, subst, arith, Ok, Err}
 use Rattle.std.proofs.lemmas.Bool.Decides.{nat_tests}
 use Rattle.std.proofs.lemmas.Bool.{cond_both, cond-true}
 use Rattle.answers.specs.declared.answer.Fault.{Fault}
@@ -10,8 +10,11 @@ use Rattle.formats.specs.declared.entry.SentEntry.{SentEntry}
 use Rattle.model.specs.declared.state.State.TheVariants.{Bypass, Transaction, Commit, EarlyFlush, EarlyCommit, Stopped}
 use Rattle.model.specs.declared.state.Token.TheVariants.{Free}
 use Rattle.model.specs.declared.place.Place.{Place}
-use Rattle.model.specs.Instructions.{Ask, onward, past, asks, inner_at}
-use Rattle.model.specs.Instructions.{Inner, InnerFaults, InnerMoves, InnerLoads, InnerStores, InnerSends, Closes, Restarts, TakesToken}
+use Rattle.formats.specs.declared.register.Register.{Register}
+use Rattle.model.specs.Instructions.{with_reg, past, asks, inner_at}
+use Rattle.model.specs.declared.ask.Ask.{Ask}
+use Rattle.model.specs.Instructions.{Decision}
+use Rattle.model.specs.declared.ask.Inner.TheVariants.{Goes, Fetches, Puts, Outputs, Closes, Restarts, TakesToken}
 use Rattle.model.specs.OneAtATime.{Inside, further, run}
 use Rattle.model.specs.declared.place.Line.{Line}
 use Rattle.model.specs.declared.effect.Effect.TheVariants.{Nothing}
@@ -51,7 +54,7 @@ module _ (e : Engine) (j : Journal) (h : Inv e j) (i : ℕ) (b : i < length e.co
 
   -- one more instruction alone, on a memory that agrees
   alone_more :
-      (r : Inner) → inner_at e.program (length e.memory) c.place c.depth c.count ≡ r →
+      (r : Decision) → inner_at e.program (length e.memory) c.place c.depth c.count ≡ r →
       (m' : List ℕ) (s : List SentEntry) → length m' ≡ length e.memory → Agree c.lines e.memory m' →
       run e.program (scene c.saved m' s) (suc c.count) ≡ further c.depth (scene c.place (overlay c.lines m') s) r
   alone_more r d m' s n agree = rw (follows.alone m' s n agree, length_overlay c.lines m', n, d) refl
@@ -78,11 +81,11 @@ module _ (e : Engine) (j : Journal) (h : Inv e j) (i : ℕ) (b : i < length e.co
       (when_free e j h f).1 refl (tracks.is_open, tracks.hit)))
 
   -- what the instruction comes to, decoded
-  abbrev Comes : Inner → Type 0
+  abbrev Comes : Decision → Type 0
   Comes r = inner_at e.program (length e.memory) c.place c.depth c.count ≡ r
 
   -- the block faults, once the token is free
-  faults : (f : Fault) → Comes (InnerFaults f) → InvAfter e j i ask (in_transaction (view_of e i) c (InnerFaults f))
+  faults : (f : Fault) → Comes (Err f) → InvAfter e j i ask (in_transaction (view_of e i) c (Err f))
   faults f d =
       let c' = resting Stopped c.place c.saved in
       once_free e j h i b ask (faulted (view_of e i) c Discarded c.count f) not_i
@@ -91,7 +94,7 @@ module _ (e : Engine) (j : Journal) (h : Inv e j) (i : ℕ) (b : i < length e.co
       (when_free e j h q).0 (when_free e j h q).1 tt refl)
 
   -- the block ends, or goes to write its lines
-  ending : Comes Closes → InvAfter e j i ask (in_transaction (view_of e i) c Closes)
+  ending : Comes (Ok Closes) → InvAfter e j i ask (in_transaction (view_of e i) c (Ok Closes))
   ending d =
       let c' = resting Bypass (past c.place) c.saved in
       once_free e j h i b ask (closes (view_of e i) c) not_i
@@ -103,42 +106,42 @@ module _ (e : Engine) (j : Journal) (h : Inv e j) (i : ℕ) (b : i < length e.co
         alive = rw st refl;
         memory = overlay c.lines h.now.memory;
         sent = h.now.sent;
-        is = unit_from e j h i Completed (suc c.count) c.saved _ (rw st refl) (alone_more Closes d h.now.memory h.now.sent h.size (λ a t. ap (λ m. get_or m a 0) (when_free e j h q).0));
+        is = unit_from e j h i Completed (suc c.count) c.saved _ (rw st refl) (alone_more (Ok Closes) d h.now.memory h.now.sent h.size (λ a t. ap (λ m. get_or m a 0) (when_free e j h q).0));
       })
       (overlay_clean c.lines h.now.memory clean ∙ (when_free e j h q).0) (when_free e j h q).1 tt refl))
 
   -- only pc, registers and depth move
-  moves : (p : Place) (depth : ℕ) → Comes (InnerMoves p depth) → InvAfter e j i ask (in_transaction (view_of e i) c (InnerMoves p depth))
+  moves : (p : Place) (depth : ℕ) → Comes (Ok (Goes p depth)) → InvAfter e j i ask (in_transaction (view_of e i) c (Ok (Goes p depth)))
   moves p depth d =
       runs_on p depth c.lines
-      (record { fit = follows.fit; alone = λ m' s n agree. alone_more (InnerMoves p depth) d m' s n agree })
-      (rw (decoded e.program (length e.memory) c.place c.depth c.count (InnerMoves p depth) d) tracks)
+      (record { fit = follows.fit; alone = λ m' s n agree. alone_more (Ok (Goes p depth)) d m' s n agree })
+      (rw (decoded e.program (length e.memory) c.place c.depth c.count (Ok (Goes p depth)) d) tracks)
 
   -- a load of a word that is in a line
-  loads_line_lem : (a : ℕ) (k : ℕ → List ℕ) → Comes (InnerLoads a k) → holds c.lines a ≡ true →
-      InvAfter e j i ask (becomes (view_of e i) (performed c (onward c.place (k (value_at c.lines a))) c.depth c.lines) Running)
+  loads_line_lem : (a : ℕ) (k : Register) → Comes (Ok (Fetches a k)) → holds c.lines a ≡ true →
+      InvAfter e j i ask (becomes (view_of e i) (performed c (with_reg c.place k (value_at c.lines a)) c.depth c.lines) Running)
   loads_line_lem a k d held =
-      runs_on (onward c.place (k (value_at c.lines a))) c.depth c.lines
+      runs_on (with_reg c.place k (value_at c.lines a)) c.depth c.lines
       (record {
         fit = follows.fit;
-        alone = λ m' s n agree. rw (alone_more (InnerLoads a k) d m' s n agree, get_or_overlay c.lines m' a (fit_agree c.lines e.memory m' follows.fit n agree) held);
+        alone = λ m' s n agree. rw (alone_more (Ok (Fetches a k)) d m' s n agree, get_or_overlay c.lines m' a (fit_agree c.lines e.memory m' follows.fit n agree) held);
       })
-      (rw ((decoded e.program (length e.memory) c.place c.depth c.count (InnerLoads a k) d).0, tracks.touched a ∙ held) tracks)
+      (rw ((decoded e.program (length e.memory) c.place c.depth c.count (Ok (Fetches a k)) d).0, tracks.touched a ∙ held) tracks)
 
   -- a load that makes a line
-  loads_memory : (a : ℕ) (k : ℕ → List ℕ) → Comes (InnerLoads a k) → holds c.lines a ≡ false →
-      InvAfter e j i ask (becomes (view_of e i) (performed c (onward c.place (k (get_or e.memory a 0))) c.depth (c.lines ++ loaded_line a (get_or e.memory a 0) ∷ [])) Running)
+  loads_memory : (a : ℕ) (k : Register) → Comes (Ok (Fetches a k)) → holds c.lines a ≡ false →
+      InvAfter e j i ask (becomes (view_of e i) (performed c (with_reg c.place k (get_or e.memory a 0)) c.depth (c.lines ++ loaded_line a (get_or e.memory a 0) ∷ [])) Running)
   loads_memory a k d absent =
       let w = get_or e.memory a 0 in
       let l = loaded_line a w in
-      let t = decoded e.program (length e.memory) c.place c.depth c.count (InnerLoads a k) d in
-      runs_on (onward c.place (k w)) c.depth (c.lines ++ l ∷ [])
+      let t = decoded e.program (length e.memory) c.place c.depth c.count (Ok (Fetches a k)) d in
+      runs_on (with_reg c.place k w) c.depth (c.lines ++ l ∷ [])
       (record {
         fit = fit_append c.lines l e.memory follows.fit (record { inside = t.1; clean = λ _. (refl, refl) }) absent;
         alone = λ m' s n agree.
             let old : Agree c.lines e.memory m' = λ q tag. agree q (grind (arith, nat_tests, tagged_append c.lines l q)) in
             let here : get_or m' a 0 ≡ w = agree a (grind (arith, nat_tests, tagged_append c.lines l a)) in
-            rw (alone_more (InnerLoads a k) d m' s n old, get_or_overlay_other c.lines m' a absent, here, overlay_append c.lines l m');
+            rw (alone_more (Ok (Fetches a k)) d m' s n old, get_or_overlay_other c.lines m' a absent, here, overlay_append c.lines l m');
       })
       (rw (t.0, tracks.touched a ∙ absent)
       (record {
@@ -149,16 +152,16 @@ module _ (e : Engine) (j : Journal) (h : Inv e j) (i : ℕ) (b : i < length e.co
       }))
 
   -- a store to a line
-  stores_line_lem : (a w : ℕ) → Comes (InnerStores a w) → holds c.lines a ≡ true →
+  stores_line_lem : (a w : ℕ) → Comes (Ok (Puts a w)) → holds c.lines a ≡ true →
       InvAfter e j i ask (becomes (view_of e i) (performed c (past c.place) c.depth (store_at c.lines a w)) Running)
   stores_line_lem a w d held =
-      let t = decoded e.program (length e.memory) c.place c.depth c.count (InnerStores a w) d in
+      let t = decoded e.program (length e.memory) c.place c.depth c.count (Ok (Puts a w)) d in
       runs_on (past c.place) c.depth (store_at c.lines a w)
       (record {
         fit = fit_store_at c.lines a w e.memory follows.fit;
         alone = λ m' s n agree.
             let old : Agree c.lines e.memory m' = λ q tag. agree q (tagged_store_at c.lines a w q ∙ tag) in
-            rw (alone_more (InnerStores a w) d m' s n old, overlay_store_at c.lines m' a w (fit_agree c.lines e.memory m' follows.fit n old) held);
+            rw (alone_more (Ok (Puts a w)) d m' s n old, overlay_store_at c.lines m' a w (fit_agree c.lines e.memory m' follows.fit n old) held);
       })
       (rw t.0
       (record {
@@ -169,17 +172,17 @@ module _ (e : Engine) (j : Journal) (h : Inv e j) (i : ℕ) (b : i < length e.co
       }))
 
   -- a store that makes a line
-  stores_memory : (a w : ℕ) → Comes (InnerStores a w) → holds c.lines a ≡ false →
+  stores_memory : (a w : ℕ) → Comes (Ok (Puts a w)) → holds c.lines a ≡ false →
       InvAfter e j i ask (becomes (view_of e i) (performed c (past c.place) c.depth (c.lines ++ stored_line a w ∷ [])) Running)
   stores_memory a w d absent =
       let l = stored_line a w in
-      let t = decoded e.program (length e.memory) c.place c.depth c.count (InnerStores a w) d in
+      let t = decoded e.program (length e.memory) c.place c.depth c.count (Ok (Puts a w)) d in
       runs_on (past c.place) c.depth (c.lines ++ l ∷ [])
       (record {
         fit = fit_append c.lines l e.memory follows.fit (record { inside = t.1; clean = λ dirty. cc }) absent;
         alone = λ m' s n agree.
             let old : Agree c.lines e.memory m' = λ q tag. agree q (grind (arith, nat_tests, tagged_append c.lines l q)) in
-            rw (alone_more (InnerStores a w) d m' s n old, overlay_append c.lines l m');
+            rw (alone_more (Ok (Puts a w)) d m' s n old, overlay_append c.lines l m');
       })
       (rw t.0
       (record {
@@ -190,16 +193,16 @@ module _ (e : Engine) (j : Journal) (h : Inv e j) (i : ℕ) (b : i < length e.co
       }))
 
   -- a step, by what the instruction comes to
-  pub transaction : (r : Inner) → Comes r → InvAfter e j i ask (in_transaction (view_of e i) c r)
-  transaction (InnerFaults f) d = faults f d
-  transaction (InnerMoves p depth) d = moves p depth d
-  transaction (InnerLoads a k) d =
+  pub transaction : (r : Decision) → Comes r → InvAfter e j i ask (in_transaction (view_of e i) c r)
+  transaction (Err f) d = faults f d
+  transaction (Ok (Goes p depth)) d = moves p depth d
+  transaction (Ok (Fetches a k)) d =
       cond_both (holds c.lines a) _ _ (InvAfter e j i ask) (loads_line_lem a k d)
       (λ absent. cond_both (ltb (length c.lines) e.capacity) _ _ (InvAfter e j i ask) (λ _. loads_memory a k d absent) (λ _. takes_early))
-  transaction (InnerStores a w) d =
+  transaction (Ok (Puts a w)) d =
       cond_both (holds c.lines a) _ _ (InvAfter e j i ask) (stores_line_lem a w d)
       (λ absent. cond_both (ltb (length c.lines) e.capacity) _ _ (InvAfter e j i ask) (λ _. stores_memory a w d absent) (λ _. takes_early))
-  transaction (InnerSends y) d = takes_early
-  transaction Closes d = ending d
-  transaction Restarts d = only_core e j h i b ask (rolled_back c) Retried not_i (rw st refl) tt refl
-  transaction TakesToken d = takes_early
+  transaction (Ok (Outputs y)) d = takes_early
+  transaction (Ok Closes) d = ending d
+  transaction (Ok Restarts) d = only_core e j h i b ask (rolled_back c) Retried not_i (rw st refl) tt refl
+  transaction (Ok TakesToken) d = takes_early

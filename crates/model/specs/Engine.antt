@@ -1,27 +1,25 @@
 -- The engine: several cores on one memory, with one commit token, one record and one outlet.
---   Outlet    the waiting entries and the room
 --   Settings  program, entry places and lines;  check  the first refusal;  make  the engine
 --   change    the one way in which a step changes an engine
 -- Assumes nothing.
-use Rattle.std.specs.Prelude.{ℕ, zero, suc, Bool, true, cond, ◌&&◌, List, [], ◌∷◌, ◌++◌, map, length, replicate, Ok, Err, Result, nat_le, nat_lt, slice_index_or, slice_set}
-use Rattle.formats.specs.declared.entry.SentEntry.{SentEntry}
+use Rattle.std.specs.Prelude.{ℕ, ◌-◌, Bool, if◌then◌else◌, ◌&&◌, List, [], ◌∷◌, ◌++◌, map, length, replicate, min, Ok, Err, Result, nat_le, nat_lt}
+use Rattle.std.specs.Prelude.{slice_index_or, slice_set}
+use Rattle.std.specs.List.{list_all}
+use Rattle.formats.specs.declared.bounds.TheConstants.{MOST_CORES, MOST_LINES, MOST_ENGINE_WORDS}
+use Rattle.formats.specs.declared.entry.RecordEntry.{RecordEntry}
 use Rattle.formats.specs.declared.instruction.Instruction.{Instruction}
 use Rattle.model.specs.declared.refusal.CheckRefusal.{CheckRefusal}
 use Rattle.model.specs.declared.refusal.CheckRefusal.TheVariants.{CoreCount, LineCount, MemoryLength, EntryOutside}
+use Rattle.model.specs.declared.context.Context.{Context}
 use Rattle.model.specs.declared.state.State.{State}
-use Rattle.model.specs.declared.state.State.TheVariants.{Bypass, Transaction, Commit, Abort, EarlyFlush, EarlyCommit, Stopped}
+use Rattle.model.specs.declared.state.State.TheVariants.{Bypass, Transaction, Abort, Stopped}
 use Rattle.model.specs.declared.state.Token.{Token}
 use Rattle.model.specs.declared.state.Token.TheVariants.{Free}
-use Rattle.model.specs.OneAtATime.{Turn}
 use Rattle.model.specs.declared.effect.Effect.{Effect}
-use Rattle.model.specs.declared.effect.Effect.TheVariants.{Nothing, Wrote, Sent}
+use Rattle.model.specs.declared.effect.Effect.TheVariants.{Wrote}
+use Rattle.model.specs.Instructions.{memory_after, sent_by}
 use Rattle.model.specs.Lines.{tagged}
-use Rattle.model.specs.Cores.{Core, resting, turned_to, View, Outcome}
-
--- the entries that wait, oldest first, and how many more find room
-pub record Outlet : Type 0 where
-  pub waiting : List SentEntry
-  pub room : ℕ
+use Rattle.model.specs.Cores.{Core, Outlet, Shared, Outcome, resting}
 
 -- what an engine is made from besides memory and outlet
 pub record Settings : Type 0 where
@@ -41,7 +39,7 @@ pub record Engine : Type 0 where
   pub cores : List Core
   pub token : Token
   -- the record
-  pub entries : List Turn
+  pub entries : List RecordEntry
   -- the core that turn steps next
   pub next : ℕ
 
@@ -51,36 +49,37 @@ up_to n most = nat_lt 0 n && nat_le n most
 
 -- is every number of a list below a bound?
 abbrev pub all_below : List ℕ → ℕ → Bool
-all_below [] n = true
-all_below (x ∷ xs) n = nat_lt x n && all_below xs n
+all_below xs n = list_all (λ x. nat_lt x n) xs
 
 -- the first refusal for some settings and a memory of so many words
 abbrev pub check : Settings → (words : ℕ) → Result (Unit {0}) CheckRefusal
 check s words =
-    cond (up_to (length s.places) 8)
-    (cond (up_to s.lines 32)
-    (cond (up_to words 4096)
-    (cond (all_below s.places (length s.program))
-    (Ok tt)
-    (Err EntryOutside))
-    (Err MemoryLength))
-    (Err LineCount))
-    (Err CoreCount)
+    if up_to (length s.places) MOST_CORES then
+      (if up_to s.lines MOST_LINES then
+        (if up_to words MOST_ENGINE_WORDS then
+          (if all_below s.places (length s.program) then Ok tt else Err EntryOutside)
+          else Err MemoryLength)
+        else Err LineCount)
+      else Err CoreCount
+
+-- a context at an instruction with all registers zero
+abbrev pub new_context : ℕ → Context
+new_context pc = record { pc = pc; registers = replicate 8 0 }
 
 -- a new core
 abbrev pub new_core : ℕ → Core
-new_core pc = resting Bypass (record { pc = pc; registers = replicate 8 0 }) (record { pc = pc; registers = replicate 8 0 })
+new_core pc = resting Bypass (new_context pc) (new_context pc)
 
 -- the cores of a new engine: none where the settings are refused
 abbrev pub new_cores : Result (Unit {0}) CheckRefusal → List ℕ → List Core
 new_cores (Ok _) places = map new_core places
 new_cores (Err _) places = []
 
--- a new engine
+-- a new engine; lines that are refused as too many count for nothing, since there is no core
 abbrev pub make : Settings → List ℕ → Outlet → Engine
 make s m o = record {
   program = s.program;
-  capacity = s.lines;
+  capacity = min s.lines MOST_LINES;
   memory = m;
   outlet = o;
   cores = new_cores (check s (length m)) s.places;
@@ -97,52 +96,46 @@ blank = resting Stopped (record { pc = 0; registers = [] }) (record { pc = 0; re
 abbrev pub core_at : Engine → ℕ → Core
 core_at e i = slice_index_or e.cores i blank
 
--- what a step of a core sees besides the core
-abbrev pub view_of : Engine → ℕ → View
-view_of e i = record { program = e.program; capacity = e.capacity; memory = e.memory; room = e.outlet.room; token = e.token; self = i }
+-- what the cores of an engine share
+abbrev pub shared : Engine → Shared
+shared e = record { program = e.program; capacity = e.capacity; memory = e.memory; outlet = e.outlet; token = e.token; entries = e.entries }
 
--- the memory after an effect
-abbrev pub memory_after : Effect → List ℕ → List ℕ
-memory_after Nothing m = m
-memory_after (Wrote a w) m = slice_set m a w
-memory_after (Sent x) m = m
-
--- one less
-abbrev pub one_less : ℕ → ℕ
-one_less zero = zero
-one_less (suc n) = n
+-- an engine by what its cores share, the cores, and which is next
+abbrev pub engine_of : Shared → List Core → ℕ → Engine
+engine_of s cs next = record {
+  program = s.program;
+  capacity = s.capacity;
+  memory = s.memory;
+  outlet = s.outlet;
+  cores = cs;
+  token = s.token;
+  entries = s.entries;
+  next = next;
+}
 
 -- the outlet after an effect
 abbrev pub outlet_after : Effect → Outlet → Outlet
-outlet_after Nothing o = o
-outlet_after (Wrote a w) o = o
-outlet_after (Sent x) o = record { waiting = o.waiting ++ x ∷ []; room = one_less o.room }
+outlet_after x o = record { waiting = o.waiting ++ sent_by x; room = o.room - length (sent_by x) }
+
+-- what the cores share, after a step of one
+abbrev pub shared_after : Outcome → Shared → Shared
+shared_after o s = record s {
+  memory = memory_after o.effect s.memory;
+  outlet = outlet_after o.effect s.outlet;
+  token = o.token;
+  entries = s.entries ++ o.entries;
+}
 
 -- a core in TRANSACTION that has a tagged line where a word was written goes to ABORT
-abbrev pub struck_at : State → ℕ → Core → Core
-struck_at Bypass a c = c
-struck_at Transaction a c = cond (tagged c.lines a) (turned_to c Abort c.lines) c
-struck_at Commit a c = c
-struck_at Abort a c = c
-struck_at EarlyFlush a c = c
-struck_at EarlyCommit a c = c
-struck_at Stopped a c = c
+abbrev pub written_at : State → ℕ → Core → Core
+written_at Transaction a c = if tagged c.lines a then record c { state = Abort } else c
+written_at _ a c = c
 
--- what an effect does to another core
-abbrev pub struck : Effect → Core → Core
-struck Nothing c = c
-struck (Wrote a w) c = struck_at c.state a c
-struck (Sent x) c = c
+-- another core, after an effect
+abbrev pub core_after : Effect → Core → Core
+core_after (Wrote a w) c = written_at c.state a c
+core_after _ c = c
 
 -- the one way in which a step changes an engine
 abbrev pub change : Engine → ℕ → Outcome → Engine
-change e i o = record {
-  program = e.program;
-  capacity = e.capacity;
-  memory = memory_after o.effect e.memory;
-  outlet = outlet_after o.effect e.outlet;
-  cores = slice_set (map (struck o.effect) e.cores) i o.core;
-  token = o.token;
-  entries = e.entries ++ o.entries;
-  next = e.next;
-}
+change e i o = engine_of (shared_after o (shared e)) (slice_set (map (core_after o.effect) e.cores) i o.core) e.next

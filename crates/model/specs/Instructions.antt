@@ -1,147 +1,110 @@
--- What an instruction does to pc and registers, and what else it asks for: said once, for both machines.
---   Ask       what an instruction asks for: a move, a word, a write, a sending, a block to open or close, an end
---   asks      the instruction at a place, read as an Ask
---   Outer     what it comes to outside every block;  outer_at  at a place
---   Inner     what it comes to inside a block;       inner_at  at a place, depth and count
+-- What an instruction asks for and what it does, said once, for both machines.
+--   action       what an instruction asks for;  action_at  the one at a context
+--   outside      an operation names an address that the memory does not have
+--   context_after, effect_of, memory_after, sent_by   what an operation does
+--   decided      what an action comes to inside a block: a fault, or how the block goes on
 -- Assumes nothing.
-use Rattle.std.specs.Prelude.{ℕ, zero, suc, ◌+◌, ◌-◌, ◌/◌, ◌%◌, cond, List, ◌==◌, nat_lt, slice_index, slice_index_or, slice_set}
+use Rattle.std.specs.Prelude.{ℕ, suc, ◌+◌, ◌-◌, ◌/◌, ◌%◌, ◌^◌, Bool, false, if◌then◌else◌, List, [], ◌∷◌, Ok, Err, Result, ◌==◌, nat_lt, nat_le}
+use Rattle.std.specs.Prelude.{slice_index, slice_index_or, slice_set}
+use Rattle.answers.specs.declared.answer.Fault.{Fault}
+use Rattle.answers.specs.declared.answer.Fault.TheVariants.{AddressOutside, TooDeep, TooLong, HaltInBlock, RetryAfterEarly}
+use Rattle.formats.specs.declared.bounds.TheConstants.{MOST_BEGINS, MOST_PERFORMED}
 use Rattle.formats.specs.declared.register.Register.{Register}
-use Rattle.formats.specs.declared.register.Register.TheVariants.{R0, R1, R2, R3, R4, R5, R6, R7}
+use Rattle.formats.specs.Registers.{register_number}
 use Rattle.formats.specs.declared.entry.SentEntry.{SentEntry}
 use Rattle.formats.specs.Sents.{sent_word}
 use Rattle.formats.specs.declared.instruction.Instruction.{Instruction}
 use Rattle.formats.specs.declared.instruction.Instruction.TheVariants.{Halt, Set, Add, Sub, Mean, Load, Store, Jump, Jz, Jlt, Begin, End, Retry, Early, Out}
-use Rattle.model.specs.declared.place.Place.{Place}
-use Rattle.answers.specs.declared.answer.Fault.{Fault}
-use Rattle.answers.specs.declared.answer.Fault.TheVariants.{AddressOutside, NoOpenBlock, TooDeep, TooLong, HaltInBlock}
-
--- where a register stands in the list
-abbrev pub index : Register → ℕ
-index R0 = 0
-index R1 = 1
-index R2 = 2
-index R3 = 3
-index R4 = 4
-index R5 = 5
-index R6 = 6
-index R7 = 7
+use Rattle.model.specs.declared.context.Context.{Context}
+use Rattle.model.specs.declared.action.Operation.{Operation}
+use Rattle.model.specs.declared.action.Operation.TheVariants.{Sets, Jumps, Loads, Stores, Sends}
+use Rattle.model.specs.declared.action.Action.{Action}
+use Rattle.model.specs.declared.action.Action.TheVariants.{Performs, Begins, Ends, Halts, Retries, Earlies}
+use Rattle.model.specs.declared.action.BlockAction.{BlockAction}
+use Rattle.model.specs.declared.action.BlockAction.TheVariants.{Continues, Nests, Closes, Restarts, TakesToken}
+use Rattle.model.specs.declared.effect.Effect.{Effect}
+use Rattle.model.specs.declared.effect.Effect.TheVariants.{Nothing, Wrote, Sent}
 
 -- the word in a register
-abbrev pub reg : List ℕ → Register → ℕ
-reg rs r = slice_index rs (index r)
+abbrev pub reg : Context → Register → ℕ
+reg x r = slice_index x.registers (register_number r)
 
--- the registers with another word in one
-abbrev pub put_reg : List ℕ → Register → ℕ → List ℕ
-put_reg rs r w = slice_set rs (index r) w
+-- what an instruction asks for; an address is an exact sum
+abbrev pub action : Instruction → Context → Action
+action Halt x = Halts
+action (Set d n) x = Performs (Sets d n.value)
+action (Add d a b) x = Performs (Sets d ((reg x a + reg x b) % 2 ^ 32))
+action (Sub d a b) x = Performs (Sets d ((reg x a + 2 ^ 32 - reg x b) % 2 ^ 32))
+action (Mean d a b) x = Performs (Sets d ((reg x a + reg x b) / 2))
+action (Load d a n) x = Performs (Loads (reg x a + n.value) d)
+action (Store a b n) x = Performs (Stores (reg x a + n.value) (reg x b))
+action (Jump n) x = Performs (Jumps n.value)
+action (Jz a n) x = Performs (Jumps (if reg x a == 0 then n.value else suc x.pc))
+action (Jlt a b n) x = Performs (Jumps (if nat_lt (reg x a) (reg x b) then n.value else suc x.pc))
+action Begin x = Begins
+action End x = Ends
+action Retry x = Retries
+action Early x = Earlies
+action (Out a c) x = Performs (Sends (sent_word c (reg x a)))
 
--- what an instruction asks for; all but Moves go on with the next instruction
-pub data Ask : Type 0 where
-  -- only pc and registers change, to these
-  Moves : Place → Ask
-  -- the word at an address; with it the registers are these
-  Loads : (address : ℕ) → (ℕ → List ℕ) → Ask
-  -- that the word at an address becomes this one
-  Stores : (address : ℕ) → (word : ℕ) → Ask
-  -- that an entry is sent
-  Sends : SentEntry → Ask
-  -- to open a block, to close one, to stop, to restart the block, to take the token now
-  Begins Ends Halts Retries Earlies : Ask
+-- what the instruction at a context asks for; past the program's end, to stop
+unfoldable pub action_at : List Instruction → Context → Action
+action_at program x = action (slice_index_or program x.pc Halt) x
 
--- going on with the next instruction and these registers
-abbrev pub onward : Place → List ℕ → Place
-onward p rs = record { pc = suc p.pc; registers = rs }
+-- an operation names an address that a memory of so many words does not have
+abbrev pub outside : (words : ℕ) → Operation → Bool
+outside words (Loads a d) = nat_le words a
+outside words (Stores a w) = nat_le words a
+outside words _ = false
 
--- the same with the registers as they are
-abbrev pub past : Place → Place
-past p = onward p p.registers
+-- the next instruction is next
+abbrev pub past : Context → Context
+past x = record x { pc = suc x.pc }
 
--- going on at an instruction with the registers as they are
-abbrev pub jumped : Place → ℕ → Place
-jumped p n = record { pc = n; registers = p.registers }
+-- the same with another word in a register
+abbrev pub with_reg : Context → Register → ℕ → Context
+with_reg x d w = record { pc = suc x.pc; registers = slice_set x.registers (register_number d) w }
 
--- what each instruction asks for at a place
-abbrev pub meaning : Instruction → Place → Ask
-meaning Halt p = Halts
-meaning (Set d n) p = Moves (onward p (put_reg p.registers d n.value))
-meaning (Add d a b) p = Moves (onward p (put_reg p.registers d ((reg p.registers a + reg p.registers b) % 4294967296)))
-meaning (Sub d a b) p = Moves (onward p (put_reg p.registers d (((reg p.registers a + 4294967296) - reg p.registers b) % 4294967296)))
-meaning (Mean d a b) p = Moves (onward p (put_reg p.registers d ((reg p.registers a + reg p.registers b) / 2)))
-meaning (Load d a n) p = Loads (reg p.registers a + n.value) (λ w. put_reg p.registers d w)
-meaning (Store a b n) p = Stores (reg p.registers a + n.value) (reg p.registers b)
-meaning (Jump n) p = Moves (jumped p n.value)
-meaning (Jz a n) p = Moves (cond (reg p.registers a == 0) (jumped p n.value) (past p))
-meaning (Jlt a b n) p = Moves (cond (nat_lt (reg p.registers a) (reg p.registers b)) (jumped p n.value) (past p))
-meaning Begin p = Begins
-meaning End p = Ends
-meaning Retry p = Retries
-meaning Early p = Earlies
-meaning (Out a c) p = Sends (sent_word c (reg p.registers a))
+-- the context after an operation on a memory
+abbrev pub context_after : Operation → List ℕ → Context → Context
+context_after (Sets d w) m x = with_reg x d w
+context_after (Jumps pc) m x = record x { pc = pc }
+context_after (Loads a d) m x = with_reg x d (slice_index m a)
+context_after _ m x = past x
 
--- what the instruction at a place asks for; past the program's end, to stop
-unfoldable pub asks : List Instruction → Place → Ask
-asks program p = meaning (slice_index_or program p.pc Halt) p
+-- what others see of an operation
+abbrev pub effect_of : Operation → Effect
+effect_of (Stores a w) = Wrote a w
+effect_of (Sends e) = Sent e
+effect_of _ = Nothing
 
--- what an instruction comes to outside every block
-pub data Outer : Type 0 where
-  OuterFaults : Fault → Outer
-  OuterMoves : Place → Outer
-  OuterLoads : (address : ℕ) → (ℕ → List ℕ) → Outer
-  OuterStores : (address : ℕ) → (word : ℕ) → Outer
-  OuterSends : SentEntry → Outer
-  -- a block is opened
-  Opens : Outer
-  -- the core stops
-  Stops : Outer
+-- the memory after an effect
+abbrev pub memory_after : Effect → List ℕ → List ℕ
+memory_after (Wrote a w) m = slice_set m a w
+memory_after _ m = m
 
--- with a memory of so many words
-abbrev pub outer : ℕ → Ask → Outer
-outer len (Moves p) = OuterMoves p
-outer len (Loads a k) = cond (nat_lt a len) (OuterLoads a k) (OuterFaults AddressOutside)
-outer len (Stores a w) = cond (nat_lt a len) (OuterStores a w) (OuterFaults AddressOutside)
-outer len (Sends e) = OuterSends e
-outer len Begins = Opens
-outer len Ends = OuterFaults NoOpenBlock
-outer len Halts = Stops
-outer len Retries = OuterFaults NoOpenBlock
-outer len Earlies = OuterFaults NoOpenBlock
+-- the entries that an effect sends
+abbrev pub sent_by : Effect → List SentEntry
+sent_by (Sent e) = e ∷ []
+sent_by _ = []
 
--- what the instruction at a place comes to outside every block
-unfoldable pub outer_at : List Instruction → ℕ → Place → Outer
-outer_at program len p = outer len (asks program p)
+-- what an action comes to inside a block: a fault, or how the block goes on
+abbrev pub Decision : Type 0
+Decision = Result BlockAction Fault
 
--- what an instruction comes to inside a block
-pub data Inner : Type 0 where
-  InnerFaults : Fault → Inner
-  -- the block goes on there with so many BEGINs open
-  InnerMoves : Place → (depth : ℕ) → Inner
-  InnerLoads : (address : ℕ) → (ℕ → List ℕ) → Inner
-  InnerStores : (address : ℕ) → (word : ℕ) → Inner
-  InnerSends : SentEntry → Inner
-  -- the block's first BEGIN is closed
-  Closes : Inner
-  -- the block is to start again
-  Restarts : Inner
-  -- the token is to be taken now
-  TakesToken : Inner
+-- in a block that has performed fewer instructions than it may; a direct block, whose words go straight to memory and outlet, does not restart
+abbrev pub within : (direct : Bool) → (words depth : ℕ) → Action → Decision
+within direct words depth (Performs o) = if outside words o then Err AddressOutside else Ok (Continues o)
+within direct words depth Begins = if nat_lt depth MOST_BEGINS then Ok (Nests (suc depth)) else Err TooDeep
+within direct words depth Ends = if nat_lt depth 2 then Ok Closes else Ok (Nests (depth - 1))
+within direct words depth Halts = Err HaltInBlock
+within direct words depth Retries = if direct then Err RetryAfterEarly else Ok Restarts
+within direct words depth Earlies = Ok TakesToken
 
--- END with so many BEGINs open
-abbrev pub closing : Place → ℕ → Inner
-closing p zero = Closes
-closing p (suc zero) = Closes
-closing p (suc (suc d)) = InnerMoves (past p) (suc d)
+-- the same in any block: the count is asked for first
+abbrev pub decided : (direct : Bool) → (words depth count : ℕ) → Action → Decision
+decided direct words depth count x = if nat_lt count MOST_PERFORMED then within direct words depth x else Err TooLong
 
--- at a place, with a memory of so many words and so many BEGINs open
-abbrev pub inner : ℕ → Place → ℕ → Ask → Inner
-inner len p depth (Moves q) = InnerMoves q depth
-inner len p depth (Loads a k) = cond (nat_lt a len) (InnerLoads a k) (InnerFaults AddressOutside)
-inner len p depth (Stores a w) = cond (nat_lt a len) (InnerStores a w) (InnerFaults AddressOutside)
-inner len p depth (Sends e) = InnerSends e
-inner len p depth Begins = cond (nat_lt depth 255) (InnerMoves (past p) (suc depth)) (InnerFaults TooDeep)
-inner len p depth Ends = closing p depth
-inner len p depth Halts = InnerFaults HaltInBlock
-inner len p depth Retries = Restarts
-inner len p depth Earlies = TakesToken
-
--- what the instruction at a place comes to inside a block that has performed so many; a block of 4,096 performs no more
-unfoldable pub inner_at : List Instruction → ℕ → Place → (depth count : ℕ) → Inner
-inner_at program len p depth count = cond (nat_lt count 4096) (inner len p depth (asks program p)) (InnerFaults TooLong)
+-- what the instruction at a context comes to inside a block
+unfoldable pub decision_at : List Instruction → (direct : Bool) → (words : ℕ) → Context → (depth count : ℕ) → Decision
+decision_at program direct words x depth count = decided direct words depth count (action_at program x)

@@ -12,38 +12,37 @@ use Rattle.answers.specs.declared.answer.Answer.{Answer}
 use Rattle.answers.specs.declared.answer.Answer.TheVariants.{RolledBack}
 use Rattle.model.specs.declared.refusal.TagsRefusal.{TagsRefusal}
 use Rattle.model.specs.declared.state.Token.{Token}
-use Rattle.model.specs.declared.state.Token.TheVariants.{Free, Core as CoreHas, Host}
+use Rattle.model.specs.declared.state.Token.TheVariants.{Core as CoreHas}
 use Rattle.model.specs.declared.call.Call.{Call}
 use Rattle.model.specs.declared.call.Call.TheVariants.{Read}
 use Rattle.model.specs.declared.call.Reply.TheVariants.{Word}
-use Rattle.model.specs.Instructions.{Ask}
+use Rattle.model.specs.declared.action.Action.{Action}
 use Rattle.model.specs.OneAtATime.{Machine, runs}
 use Rattle.model.specs.declared.effect.Effect.{Effect}
 use Rattle.model.specs.Lines.{Distinct}
-use Rattle.model.specs.Cores.{settle}
-use Rattle.model.specs.Engine.{Settings, Outlet, make, core_at}
+use Rattle.model.specs.Cores.{Outlet, settle}
+use Rattle.model.specs.Engine.{Settings, make, core_at}
 use Rattle.model.specs.Calls.{Tags}
 use Rattle.model.specs.Runs.{Moved, event, played, memory_seen, sent_in, taken_in, reply, plays}
 use Rattle.model.specs.Blocks.{OpenAndHit}
-use Rattle.model.specs.Journal.{Run, history}
+use Rattle.model.specs.Traces.{Run, history}
 
 -- no core has the token; the host may
 abbrev pub NoCoreHas : Token → Type 0
-NoCoreHas Free = Unit {0}
 NoCoreHas (CoreHas k) = ⊥
-NoCoreHas Host = Unit {0}
+NoCoreHas _ = Unit {0}
 
 -- the record, run one turn at a time from the last clearing, explains the engine
 pub record Explained (r : Run) : Type 0 where
   pub machine : Machine
   -- no turn is impossible
-  pub possible : runs r.engine.program r.engine.entries r.journal.start ≡ some machine
+  pub possible : runs r.engine.program r.engine.entries r.trace.start ≡ some machine
   -- the memory is the engine's
   pub memory : machine.memory ≡ r.engine.memory
   -- the cores are as the engine's are settled
   pub cores : machine.cores ≡ map settle r.engine.cores
   -- the entries taken since the clearing, then those waiting, are those waiting at the clearing, then those sent
-  pub sent : r.journal.taken ++ r.engine.outlet.waiting ≡ r.journal.waiting ++ machine.sent
+  pub sent : r.trace.taken ++ r.engine.outlet.waiting ≡ r.trace.waiting ++ machine.sent
 
 -- observed: an event tells every word that a call writes and every entry that it sends or takes
 pub record Told (r : Run) (c : Call) : Type 0 where
@@ -63,14 +62,14 @@ SerialAt r = NoCoreHas r.engine.token → Explained r
 -- roll-back: a core that moves answers "rolled back" exactly when it has an open block and another core has written a word that the block had taken
 abbrev pub RollBackAt : Run → Type 0
 RollBackAt r =
-    (c : Call) (i : ℕ) (ask : Ask) (answer : Answer) (x : Effect) →
-    event r.engine c ≡ Moved i ask answer x →
-    (answer ≡ RolledBack) ↔ OpenAndHit i r.journal.moves
+    (c : Call) (i : ℕ) (action : Action) (answer : Answer) (x : Effect) →
+    event r.engine c ≡ Moved i action answer x →
+    (answer ≡ RolledBack) ↔ OpenAndHit i r.trace.moves
 
 -- a word of the machine that has run the entries present when the hold began
 pub record HeldWord (r : Run) (a w : ℕ) : Type 0 where
   pub machine : Machine
-  pub possible : runs r.engine.program r.journal.held r.journal.start ≡ some machine
+  pub possible : runs r.engine.program r.trace.held r.trace.start ≡ some machine
   pub inside : a < length machine.memory
   pub word : w ≡ slice_index machine.memory a
 

@@ -7,5 +7,5 @@ pub mod Engine
 pub mod Calls
 pub mod Runs
 pub mod Blocks
-pub mod Journal
+pub mod Traces
 pub mod Laws

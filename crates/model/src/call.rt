@@ -4,7 +4,7 @@ use answers::answer::Answer;
 use answers::refusal::NothingWaits;
 use formats::entry::SentEntry;
 
-// A call of the engine.
+/// A call of the engine.
 #[derive(Clone, Copy, PartialEq, Eq, Debug)]
 pub enum Call {
     // move one core
@@ -23,7 +23,7 @@ pub enum Call {
     Take,
 }
 
-// What a call answers.
+/// What a call answers.
 #[derive(Clone, Copy, PartialEq, Eq, Debug)]
 pub enum Reply {
     Stepped(Result<Answer, StepRefusal>),

@@ -4,7 +4,7 @@ ghost use Rattle.model.specs.Refusals.{check_number, step_number, clear_number, 
 
 use answers::refusal::Refusal;
 
-// Settings that are not accepted.
+/// Settings that are not accepted.
 #[derive(Clone, Copy, PartialEq, Eq, Debug)]
 pub enum CheckRefusal {
     // the entry places are none, or more than 8
@@ -17,7 +17,7 @@ pub enum CheckRefusal {
     EntryOutside = 9,
 }
 
-// A step or a turn that is not taken.
+/// A step or a turn that is not taken.
 #[derive(Clone, Copy, PartialEq, Eq, Debug)]
 pub enum StepRefusal {
     // there is no such core
@@ -26,21 +26,21 @@ pub enum StepRefusal {
     RecordFull = 11,
 }
 
-// The record is not cleared.
+/// The record is not cleared.
 #[derive(Clone, Copy, PartialEq, Eq, Debug)]
 pub enum ClearRefusal {
     // the token is not free
     TokenTaken = 12,
 }
 
-// The token is not given to the host.
+/// The token is not given to the host.
 #[derive(Clone, Copy, PartialEq, Eq, Debug)]
 pub enum HoldRefusal {
     // the token is not free
     TokenTaken = 12,
 }
 
-// The host's read is not answered.
+/// The host's read is not answered.
 #[derive(Clone, Copy, PartialEq, Eq, Debug)]
 pub enum ReadRefusal {
     // the host does not have the token
@@ -49,21 +49,21 @@ pub enum ReadRefusal {
     AddressOutside = 14,
 }
 
-// The token is not given back.
+/// The token is not given back.
 #[derive(Clone, Copy, PartialEq, Eq, Debug)]
 pub enum GiveBackRefusal {
     // the host does not have the token
     NotHeld = 13,
 }
 
-// The record has no entry there.
+/// The record has no entry there.
 #[derive(Clone, Copy, PartialEq, Eq, Debug)]
 pub enum RecordRefusal {
     // the place is not filled
     NotFilled = 16,
 }
 
-// A core's tags are not copied.
+/// A core's tags are not copied.
 #[derive(Clone, Copy, PartialEq, Eq, Debug)]
 pub enum TagsRefusal {
     // there is no such core

@@ -1,6 +1,6 @@
 // What a core is doing, and who has the commit token.
 
-// The state of a core.
+/// The state of a core.
 #[derive(Clone, Copy, PartialEq, Eq, Debug)]
 pub enum State {
     // outside every block
@@ -19,7 +19,7 @@ pub enum State {
     Stopped,
 }
 
-// Who has the commit token.
+/// Who has the commit token.
 #[derive(Clone, Copy, PartialEq, Eq, Debug)]
 pub enum Token {
     Free,
@@ -27,9 +27,9 @@ pub enum Token {
     Host,
 }
 
-// What people see of a core.
+/// What people see of a core.
 #[derive(Clone, Copy, PartialEq, Eq, Debug)]
-pub struct Look {
+pub struct Status {
     pub state: State,
     pub pc: usize,
     pub registers: [u32; 8],

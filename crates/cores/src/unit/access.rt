@@ -3,13 +3,13 @@ ghost use Rattle.std.specs.Prelude.{◌≡◌, ◌<◌, ◌≤◌, MatchOption};
 ghost use Rattle.model.specs.Instructions.{asks};
 ghost use Rattle.model.specs.Engine.{new_core, struck_at};
 ghost use Rattle.model.specs.Calls.{look_at};
-ghost use Rattle.cores.specs.Asks.{ask_of, Onward};
+ghost use Rattle.cores.specs.Asks.{Onward};
 ghost use Rattle.cores.specs.Tags.{LineTags};
-ghost use Rattle.cores.specs.Units.{load_address};
 
 use super::Core;
-use crate::ask::{Access, Ask};
+use crate::ask::meaning;
 use crate::buffer::Buffer;
+use model::ask::Ask;
 use model::place::Place;
 use model::refusal::TagsRefusal;
 use model::state::{Look, State};
@@ -75,21 +75,10 @@ impl Core {
     // What the core's instruction asks for.
     #[tactic(auto, unfolding(model::specs::Instructions::asks))]
     pub(super) fn ask(&self, program: &Program) -> Ask
-        ensures value { ask_of self.now.place result ≡ asks program.now self.now.place }
+        ensures value { result ≡ asks program.now self.now.place }
         ensures onward { Onward self.now.place result }
     {
-        Ask::of(program.at(self.place.pc), self.place)
-    }
-
-    // The address that the core's instruction would load, 0 where it is no LOAD. No Option: a step sees a word of the memory
-    // whatever its instruction is.
-    pub fn load_address(&self, program: &Program) -> usize
-        ensures { result ≡ load_address program.now self.now.place }
-    {
-        match self.ask(program) {
-            Ask::Accesses(Access::Load { address, d: _ }) => address,
-            _ => 0,
-        }
+        meaning(program.at(self.place.pc), self.place)
     }
 
     // Copies the tagged addresses to the first places of a list and answers their number; refused where the list is too

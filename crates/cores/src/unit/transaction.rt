@@ -1,19 +1,21 @@
 // A step in TRANSACTION: in a block, reading by tagged lines and writing to the buffer.
-ghost use Rattle.std.specs.Prelude.{◌≡◌, ◌<◌, ◌≤◌, false};
+ghost use Rattle.std.specs.Prelude.{◌≡◌, ◌<◌, ◌≤◌, false, length, Ok};
+ghost use Rattle.model.specs.declared.ask.Inner.TheVariants.{Fetches, Puts};
 ghost use Rattle.model.specs.declared.state.State.TheVariants.{Transaction};
 ghost use Rattle.model.specs.Lines.{holds};
 ghost use Rattle.model.specs.Cores.{early, with_line, closes, in_transaction};
-ghost use Rattle.cores.specs.Decisions.{inner_of, OnwardInner};
-ghost use Rattle.cores.specs.Steps.{scene_of, loads_line, stores_line};
+ghost use Rattle.cores.specs.Decisions.{OnwardInner};
+ghost use Rattle.cores.specs.Steps.{over, scene_of};
 ghost use Rattle.cores.specs.Units.{outcome_of};
 
 use super::Core;
-use crate::ask::{Access, next, put};
-use crate::decide::Inner;
+use crate::ask::{next, put};
 use crate::scene::{Outcome, Scene};
 use answers::answer::{Answer, Fault};
 use formats::entry::Mark;
 use formats::register::Register;
+use memory::shared::Memory;
+use model::ask::Inner;
 use model::effect::Effect;
 use model::place::{Line, Place};
 use model::state::State;
@@ -53,22 +55,24 @@ impl Core {
     }
 
     // A load: from the line at the address, or by a new line with the memory's word.
-    fn loads(&mut self, scene: Scene, address: usize, d: Register) -> Outcome
+    fn loads<M: Memory>(&mut self, memory: &M, scene: Scene, address: usize, d: Register) -> Outcome
         requires state { self.old.state ≡ Transaction }
         requires count_bound { self.old.count < 4096 }
         requires pc_bound { self.old.place.pc < 511 }
-        ensures { outcome_of self.new result ≡ loads_line scene self.old address d }
+        requires within { address < length (M.Memory.words memory.now) }
+        ensures { outcome_of self.new result ≡ in_transaction (over (M.Memory.words memory.now) scene) self.old (Ok (Fetches address d)) }
     {
         match self.buffer.value(address) {
             Some(word) => self.runs(scene, put(self.place, d, word), self.depth),
             None => {
+                let value = memory.read(address).unwrap_or(0);
                 let line = Line {
                     address,
-                    value: scene.word,
+                    value,
                     tag: true,
                     dirty: false,
                 };
-                self.with_line(scene, put(self.place, d, scene.word), line)
+                self.with_line(scene, put(self.place, d, value), line)
             }
         }
     }
@@ -79,7 +83,7 @@ impl Core {
         requires state { self.old.state ≡ Transaction }
         requires count_bound { self.old.count < 4096 }
         requires pc_bound { self.old.place.pc < 511 }
-        ensures { outcome_of self.new result ≡ stores_line scene self.old address word }
+        ensures { outcome_of self.new result ≡ in_transaction (scene_of scene) self.old (Ok (Puts address word)) }
     {
         if self.buffer.store(address, word) {
             self.runs(scene, next(self.place), self.depth)
@@ -109,10 +113,15 @@ impl Core {
     }
 
     // A step in TRANSACTION.
-    pub(super) fn in_transaction(&mut self, inner: Result<Inner, Fault>, scene: Scene) -> Outcome
+    pub(super) fn in_transaction<M: Memory>(
+        &mut self,
+        inner: Result<Inner, Fault>,
+        memory: &M,
+        scene: Scene,
+    ) -> Outcome
         requires state { self.old.state ≡ Transaction }
-        requires onward { OnwardInner self.old.place self.old.count scene.words inner }
-        ensures { outcome_of self.new result ≡ in_transaction (scene_of scene) self.old (inner_of self.old.place inner) }
+        requires onward { OnwardInner self.old.place self.old.count (length (M.Memory.words memory.now)) inner }
+        ensures { outcome_of self.new result ≡ in_transaction (over (M.Memory.words memory.now) scene) self.old inner }
     {
         match inner {
             Err(_) | Ok(Inner::Closes) if scene.token_taken() => self.becomes(
@@ -120,17 +129,15 @@ impl Core {
                 Answer::Waiting,
             ),
             Err(fault) => self.faulted(scene, Mark::Discarded, self.count, fault),
-            Ok(Inner::Moves { place, depth }) => self.runs(scene, place, depth),
-            Ok(Inner::Accesses(Access::Load { address, d })) => self.loads(scene, address, d),
-            Ok(Inner::Accesses(Access::Store { address, word })) => self.stores(
-                scene, address, word,
-            ),
+            Ok(Inner::Goes { place, depth }) => self.runs(scene, place, depth),
+            Ok(Inner::Fetches { address, d }) => self.loads(memory, scene, address, d),
+            Ok(Inner::Puts { address, word }) => self.stores(scene, address, word),
             Ok(Inner::Closes) => self.closes(scene),
             Ok(Inner::Restarts) => {
                 self.roll_back();
                 self.becomes(scene, Answer::Retried)
             }
-            Ok(Inner::Accesses(Access::Send(_)) | Inner::TakesToken) => self.early(scene),
+            Ok(Inner::Outputs(_) | Inner::TakesToken) => self.early(scene),
         }
     }
 }

@@ -1,9 +1,9 @@
 // Moving one core: it is lent to its step, and the rest of the engine takes what the step came to.
 ghost use Rattle.std.specs.Prelude.{◌≡◌, ◌<◌, ◌≤◌, length, slice_index, MatchOption};
 ghost use Rattle.model.specs.Cores.{outcome};
-ghost use Rattle.model.specs.Engine.{core_at};
+ghost use Rattle.model.specs.Engine.{core_at, view_of};
 ghost use Rattle.cores.specs.Units.{scene_view};
-ghost use Rattle.engine.specs.Steps.{scene_of, Moved, applied};
+ghost use Rattle.engine.specs.Steps.{Moved, applied};
 
 use super::Engine;
 use answers::answer::Answer;
@@ -14,24 +14,13 @@ use model::effect::Effect;
 use outlet::waiting::Outlet;
 
 impl<M: Memory, O: Outlet> Engine<M, O> {
-    // The word at an address, 0 where there is none: a step sees one word of the memory, whatever its instruction is.
-    fn word_or_zero(&self, address: usize) -> u32
-        ensures { result ≡ slice_index self.now.memory address }
-    {
-        self.memory.read(address).unwrap_or(0)
-    }
-
     // What a step of a core sees, or None where there is no such core.
     pub(crate) fn scene(&self, i: usize) -> Option<Scene>
-        ensures { MatchOption result (length self.now.cores ≤ i) (λ scene. (i < length self.now.cores) × (scene_view self.now.program scene ≡ scene_of self.now i)) }
+        ensures { MatchOption result (length self.now.cores ≤ i) (λ scene. (i < length self.now.cores) × (scene_view self.now.program self.now.memory scene ≡ view_of self.now i)) }
     {
-        let core = self.table.get(i)?;
-        let address = core.load_address(&self.program);
-        let word = self.word_or_zero(address);
+        self.table.get(i)?;
         Some(Scene {
             capacity: self.capacity,
-            words: self.memory.len(),
-            word,
             room: self.outlet.room(),
             token: self.token,
             me: CoreNumber::new(i as u32).unwrap(),
@@ -41,10 +30,10 @@ impl<M: Memory, O: Outlet> Engine<M, O> {
     // The core moves; the rest of the engine stays as it is.
     pub(crate) fn move_core(&mut self, i: usize, scene: Scene) -> Outcome
         requires { i < length self.old.cores }
-        ensures { Moved self.old self.new i result (outcome (scene_view self.old.program scene) (core_at self.old i)) }
+        ensures { Moved self.old self.new i result (outcome (scene_view self.old.program self.old.memory scene) (core_at self.old i)) }
     {
         let core = self.table.get_mut(i).unwrap();
-        core.step(&self.program, scene)
+        core.step(&self.program, &self.memory, scene)
     }
 
     // The rest of the engine takes what a core's move came to.

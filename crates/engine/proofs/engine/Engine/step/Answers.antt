@@ -4,8 +4,7 @@ use Rattle.model.specs.Cores.{View, Outcome as ModelOutcome, outcome}
 use Rattle.model.specs.Engine.{core_at, view_of}
 use Rattle.model.specs.Calls.{outcome_of, wanted, step, stepped}
 use Rattle.cores.specs.Units.{scene_view}
-use Rattle.cores.proofs.Scenes.{outcome_over}
-use Rattle.engine.specs.Steps.{Moved, scene_of}
+use Rattle.engine.specs.Steps.{Moved}
 use Rattle.engine.proofs.Rooms.{step_roomy}
 use Rattle.engine.proofs.Applying.{moved_applied}
 use Rattle.engine.proofs.engine.Engine.step.Goals as goal
@@ -16,10 +15,10 @@ returns g c =
     let f = c.move_core-outcome.new.self in
     let i = c.args.i in
     let scene = c.in_ok-scene.scene in
-    let seen : (i < length e.cores) × (scene_view e.program scene ≡ scene_of e i) = search rules in
+    let seen : (i < length e.cores) × (scene_view e.program e.memory scene ≡ view_of e i) = search rules in
     let enough : length e.entries + wanted e.token i ≤ 1024 = search rules in
     let free : length e.entries < 1024 = search rules in
-    let same : outcome (scene_view e.program scene) (core_at e i) ≡ outcome_of e i = ap (λ (v : View). outcome v (core_at e i)) seen.1 ∙ sym (outcome_over (view_of e i) (core_at e i)) in
+    let same : outcome (scene_view e.program e.memory scene) (core_at e i) ≡ outcome_of e i = ap (λ (v : View). outcome v (core_at e i)) seen.1 in
     let moved : Moved e f i c.move_core-outcome.result (outcome_of e i) = subst (λ (o : ModelOutcome). Moved e f i c.move_core-outcome.result o) same c.move_core-outcome.ensures in
     let done : step e i ≡ stepped e i = rw (lt-ltb i (length e.cores) seen.0, le-leb (length e.entries + wanted e.token i) 1024 enough) refl in
     record {
