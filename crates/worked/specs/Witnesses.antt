@@ -19,7 +19,7 @@ use Rattle.model.specs.declared.call.Call.TheVariants.{Step, Hold, Read, GiveBac
 use Rattle.model.specs.declared.call.Reply.TheVariants.{Stepped, Word, Taken}
 use Rattle.model.specs.Engine.{Engine}
 use Rattle.model.specs.Runs.{replies}
-use Rattle.model.specs.Journal.{Run}
+use Rattle.model.specs.Traces.{Run}
 use Rattle.worked.specs.Values.{entry_of, settled_of, stopped_of, machine_of, engine_of, run_of, explained, is_open, taken_of, held_of}
 use Rattle.worked.specs.Examples.{steps_of, answers, Says, pair_program, alone, counters, counter_run}
 
