@@ -1,5 +1,5 @@
+pub mod Values
 pub mod Packed
 pub mod Examples
 pub mod Witnesses
 pub mod Limits
-pub mod Compared

@@ -6,11 +6,12 @@ use Rattle.answers.specs.Refusals.{instruction_number, program_refusal_number}
 use Rattle.formats.specs.declared.register.Register.TheVariants.{R0, R1, R2}
 use Rattle.formats.specs.declared.entry.Mark.TheVariants.{Kept}
 use Rattle.formats.specs.declared.instruction.Instruction.TheVariants.{Set, Store, Jump, Out}
-use Rattle.formats.specs.Belows.{immediate_of, channel_of, core_of, count_of}
+use Rattle.formats.specs.Belows.{immediate_of, channel_of}
 use Rattle.formats.specs.Bytes.{bytes_of}
 use Rattle.formats.specs.Instructions.{instruction_word, word_instruction}
 use Rattle.formats.specs.Records.{record_word}
 use Rattle.program.specs.Reading.{read_program}
+use Rattle.worked.specs.Values.{entry_of}
 
 -- the number of a refusal, 0 where nothing is refused
 abbrev pub refusal : {T F : Type 0} → (F → ℕ) → Result T F → ℕ
@@ -30,7 +31,7 @@ pub record Packed : Type 0 where
   pub field : refusal instruction_number (word_instruction 0x50000001) ≡ 3
   pub opcode : refusal instruction_number (word_instruction 0x78000000) ≡ 2
   -- the entry core 5, mark 2, count 4,096
-  pub entry : record_word (record { core = core_of 5; mark = Kept; count = count_of 4096 }) ≡ 0xB0001000
+  pub entry : record_word (entry_of 5 Kept 4096) ≡ 0xB0001000
   -- a program of one JUMP to itself, one of a JUMP past its end, one of a SET alone
   pub loop : read_program (bytes_of 4 0x38000000) ≡ Ok (Jump (immediate_of 0) ∷ [])
   pub past : refusal program_refusal_number (read_program (bytes_of 4 0x38000001)) ≡ 4

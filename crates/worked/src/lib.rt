@@ -1,7 +1,6 @@
 // Worked examples of the formats and of the engine, and runs in which each law says something: theorems shown by computing the definitions.
 #![tactic(auto)]
 
-ghost use Rattle.worked.specs.Compared.{Compared};
 ghost use Rattle.worked.specs.Examples.{Worked};
 ghost use Rattle.worked.specs.Packed.{Packed};
 ghost use Rattle.worked.specs.Limits.{Limits};
@@ -22,9 +21,4 @@ pub fn witness_runs_hold()
 // What passes at each limit, and what is refused or faults past it.
 pub fn limits_hold()
     ensures { Limits }
-{}
-
-// Random runs, and what a simulator in another language says of each.
-pub fn comparison_holds()
-    ensures { Compared }
 {}

@@ -1,8 +1,8 @@
 -- `worked::witness_runs_hold`: the witness runs hold by computation.
 -- Assumes nothing.
-use Rattle.model.specs.Instructions.{asks, outer_at, inner_at}
+use Rattle.model.specs.Instructions.{action_at, decision_at}
 use Rattle.worked.proofs.witness_runs_hold.Goals as goal
 
 pub returns : goal.returns
-unfolding asks outer_at inner_at
+unfolding action_at decision_at
 returns c = assumption
