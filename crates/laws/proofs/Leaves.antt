@@ -12,10 +12,10 @@ use Rattle.model.specs.declared.state.Token.TheVariants.{Free, Core as CoreHas}
 use Rattle.model.specs.declared.action.Action.{Action}
 use Rattle.model.specs.OneAtATime.{Machine, no_core}
 use Rattle.model.specs.declared.effect.Effect.{Effect}
-use Rattle.model.specs.declared.effect.Effect.TheVariants.{Nothing}
+use Rattle.model.specs.declared.effect.Effect.TheVariants.{Nothing, Sent}
 use Rattle.model.specs.Instructions.{memory_after, sent_by}
-use Rattle.model.specs.Cores.{Core, Outcome, settle, settled_stopped, freed, becomes, acts, takes_token, finishes}
-use Rattle.model.specs.Engine.{Engine, core_at, shared}
+use Rattle.model.specs.Cores.{Core, Outlet, Outcome, settle, settled_stopped, freed, becomes, acts, takes_token, finishes}
+use Rattle.model.specs.Engine.{Engine, core_at, shared, outlet_after}
 use Rattle.model.specs.Traces.{Trace}
 use Rattle.laws.proofs.Invariant.{Holder, Holding, Matches, SentIs, Inv}
 use Rattle.laws.proofs.Keeps.{Fine, Step, Quiet, InvAfter, core_own, kept, kept_aside, length_after}
@@ -34,6 +34,11 @@ UnitIs e t h i mark n c m s =
 -- the same of the entries that a step sends
 abbrev pub SentWith : Effect → Engine → Trace → List SentEntry → Type 0
 SentWith x e t s = t.taken ++ (e.outlet.waiting ++ sent_by x) ≡ t.waiting ++ s
+
+-- the entries that wait after an effect
+waits : (x : Effect) (o : Outlet) → (outlet_after x o).waiting ≡ o.waiting ++ sent_by x
+waits (Sent y) o = refl
+waits _ o = sym (append-nil o.waiting)
 
 -- the token stays where it is when a core finishes that has it not
 freed_aside :
@@ -93,7 +98,7 @@ module _ (e : Engine) (t : Trace) (h : Inv e t) (i : ℕ) (b : i < length e.core
       InvAfter e t i action (finishes (shared e) i c x mark n answer)
   finish_free c x mark n answer s q u v f =
       kept e t h i b action _ f (unit c x mark n answer _ s u (length_after x e.memory) (freed_quiet x e.token i q))
-      (rw q (refl, v)) (rw q tt)
+      (rw q (refl, rw (waits x e.outlet) v)) (rw q tt)
 
   -- a core that found the token free takes it
   pub take_token :
@@ -102,7 +107,7 @@ module _ (e : Engine) (t : Trace) (h : Inv e t) (i : ℕ) (b : i < length e.core
   take_token c answer q s w v f =
       let o = takes_token i c answer in
       kept e t h i b action o f (same o refl s (alone_quiet Nothing e.token (CoreHas i) i (λ k p. cc)))
-      (h.now.sent, rw (core_own e i o b) w, rw append-nil v) tt
+      (h.now.sent, rw (core_own e i o b) w, v) tt
 
   -- the core that has the token goes on with it
   pub go_on :
@@ -112,4 +117,4 @@ module _ (e : Engine) (t : Trace) (h : Inv e t) (i : ℕ) (b : i < length e.core
   go_on c x answer s own q w v f =
       let o = acts (shared e) c x answer in
       kept e t h i b action o f (same o refl q (alone_quiet x e.token e.token i (λ k p. cc)))
-      (rw own (s, rw (core_own e i o b) w, v)) (rw own tt)
+      (rw own (s, rw (core_own e i o b) w, rw (waits x e.outlet) v)) (rw own tt)
