@@ -4,7 +4,7 @@
  * for the commit token. A list of turns, with a clear after every 61st, is played on a new engine again and again.
  *
  *   bash tools/staticlib.sh
- *   cc -O2 tools/bench.c target/staticlib/libbench.a -o /some/where/bench
+ *   cc -O2 tools/bench.c target/staticlib/libpesilyum_hub.a -o /some/where/bench
  *   /some/where/bench [millions of calls]
  *
  * The forms of all bytes are told in docs/10-bench.md.

@@ -2,7 +2,7 @@
 -- Assumes nothing.
 use Rattle.std.proofs.Common.{◌≡◌, ℕ, zero, suc, ◌<◌, ◌≤◌, List, [], ◌∷◌, ◌++◌, length, Some, None, sym, refl, ap, ◌∙◌, append_assoc, arith}
 use Rattle.std.proofs.lemmas.List.{append-nil}
-use Rattle.tokens.specs.Lines.{next_token}
+use Rattle.text.specs.Lines.{next_token}
 use Rattle.console.specs.Printed.{ahead, first_tokens, echo, echoed}
 
 -- a blank text has no token

@@ -1,2 +1,11 @@
+pub mod Buffers
+pub mod Parsing
+pub mod Reasons
+pub mod Said
+pub mod Words
+pub mod ReplyTexts
+pub mod Lines
+pub mod Repeated
+pub mod Replies
 pub mod Printed
 pub mod Played

@@ -3,24 +3,24 @@
 use Rattle.std.specs.Prelude.{◌≡◌, ℕ, ◌⊎◌, List, [], ◌++◌, replicate, Some, None, Ok, Err, codes, decimal, Option}
 use Rattle.std.specs.Option.{option_map, unwrap_or}
 use Rattle.program.specs.declared.program.Program.{Program}
-use Rattle.buffers.specs.declared.buffers.MemoryBuffer.{MemoryBuffer}
-use Rattle.buffers.specs.declared.buffers.OutletBuffer.TheVariants.{Store}
-use Rattle.commands.specs.declared.command.Command.{Command}
-use Rattle.commands.specs.declared.command.Command.TheVariants.{Packed, Memory, Outlet, Make as MakeOne, Engine as ToEngine}
-use Rattle.commands.specs.declared.command.Settings.{Settings}
-use Rattle.commands.specs.declared.reason.ParseError.{ParseError}
-use Rattle.commands.specs.declared.reason.ParseError.TheVariants.{NotUnderstood, NoMemory}
-use Rattle.commands.specs.declared.reason.Reason.{Reason}
-use Rattle.commands.specs.declared.reason.Reason.TheVariants.{NoProgram}
-use Rattle.buffers.specs.Buffers.{words_in, room_in}
-use Rattle.commands.specs.Parsing.{command_of}
-use Rattle.buffers.specs.Buffers.{memory_said, words, outlet_said}
-use Rattle.commands.specs.Said.{said}
-use Rattle.render.specs.Lines.{packed_lines, program_after}
+use Rattle.console.specs.declared.buffers.MemoryBuffer.{MemoryBuffer}
+use Rattle.console.specs.declared.buffers.OutletBuffer.TheVariants.{Store}
+use Rattle.console.specs.declared.command.Command.{Command}
+use Rattle.console.specs.declared.command.Command.TheVariants.{Packed, Memory, Outlet, Make as MakeOne, Engine as ToEngine}
+use Rattle.console.specs.declared.command.Settings.{Settings}
+use Rattle.console.specs.declared.reason.ParseError.{ParseError}
+use Rattle.console.specs.declared.reason.ParseError.TheVariants.{NotUnderstood, NoMemory}
+use Rattle.console.specs.declared.reason.Reason.{Reason}
+use Rattle.console.specs.declared.reason.Reason.TheVariants.{NoProgram}
+use Rattle.console.specs.Buffers.{words_in, room_in}
+use Rattle.console.specs.Parsing.{command_of}
+use Rattle.console.specs.Buffers.{memory_said, words, outlet_said}
+use Rattle.console.specs.Said.{said}
+use Rattle.console.specs.Lines.{packed_lines, program_after}
 use Rattle.console.specs.declared.console.Console.{Console}
 use Rattle.console.specs.declared.console.Next.{Next}
 use Rattle.console.specs.declared.console.Next.TheVariants.{Line, Engine, Make}
-use Rattle.console.specs.Printed.{head_text, reason_line, told_line}
+use Rattle.console.specs.Printed.{head_text, reason_line, reply_line}
 
 -- nothing is set up
 abbrev pub beginning : Console
@@ -46,9 +46,9 @@ abbrev pub Answered : Console → List ℕ → Command → List ℕ → Next →
 Answered c text (Packed k) printed next after =
     (printed ≡ head_text text ++ packed_lines k c.program) × (next ≡ Line) × (after.program ≡ program_after k c.program) × (after.memory ≡ c.memory) × (after.outlet ≡ c.outlet)
 Answered c text (Memory b) printed next after =
-    (printed ≡ told_line text (codes "words " ++ decimal (words_in (memory_said b)))) × (next ≡ Line) × (after ≡ record { program = c.program; memory = Some b; outlet = c.outlet })
+    (printed ≡ reply_line text (codes "words " ++ decimal (words_in (memory_said b)))) × (next ≡ Line) × (after ≡ record { program = c.program; memory = Some b; outlet = c.outlet })
 Answered c text (Outlet b) printed next after =
-    (printed ≡ told_line text (codes "room " ++ decimal (room_in (outlet_said b)))) × (next ≡ Line) × (after ≡ record { program = c.program; memory = c.memory; outlet = Some b })
+    (printed ≡ reply_line text (codes "room " ++ decimal (room_in (outlet_said b)))) × (next ≡ Line) × (after ≡ record { program = c.program; memory = c.memory; outlet = Some b })
 Answered c text (MakeOne s) printed next after = Ordered c.program c text s printed next after
 Answered c text (ToEngine k) printed next after = (printed ≡ []) × (next ≡ Engine k) × (after ≡ c)
 

@@ -2,10 +2,10 @@
 -- Assumes nothing.
 use Rattle.std.specs.Prelude.{ℕ, zero, suc, ◌-◌, cond, List, [], ◌∷◌, ◌++◌, length, take, Some, None, codes, Option, ◌==◌, slice_index}
 use Rattle.std.specs.List.{flat_map}
-use Rattle.tokens.specs.Lines.{before_remark, next_token}
-use Rattle.commands.specs.declared.reason.Reason.{Reason}
-use Rattle.commands.specs.Reasons.{reason_text}
-use Rattle.render.specs.Lines.{ended}
+use Rattle.text.specs.Lines.{before_remark, next_token}
+use Rattle.console.specs.declared.reason.Reason.{Reason}
+use Rattle.console.specs.Reasons.{reason_text}
+use Rattle.console.specs.Lines.{ended}
 
 -- a line without the newline that ends it
 abbrev pub without_newline : List ℕ → List ℕ
@@ -46,5 +46,5 @@ abbrev pub reason_line : Reason → List ℕ
 reason_line reason = codes "-> not understood: " ++ ended (reason_text reason)
 
 -- the line of an answer
-abbrev pub told_line : List ℕ → List ℕ → List ℕ
-told_line text told = head_text text ++ ended told
+abbrev pub reply_line : List ℕ → List ℕ → List ℕ
+reply_line text reply = head_text text ++ ended reply

@@ -1,17 +1,17 @@
 // One scenario, line by line.
 ghost use Rattle.std.specs.Prelude.{◌≡◌, ◌++◌, IfOk, OnOk};
-ghost use Rattle.console.specs.Printed.{without_newline, words_of, tokens_of, echoed, head_text, reason_line, told_line};
+ghost use Rattle.console.specs.Printed.{without_newline, words_of, tokens_of, echoed, head_text, reason_line, reply_line};
 ghost use Rattle.console.specs.Played.{beginning, Appends, Given, Ordered, Answered, Explained, Played};
 
-use buffers::buffers::{MemoryBuffer, OutletBuffer};
-use commands::command::{Command, Settings};
-use commands::machine::EngineCommand;
-use commands::reason::{ParseError, Reason};
+use crate::buffers::{MemoryBuffer, OutletBuffer};
+use crate::command::{Command, Settings};
+use crate::line::write_line;
+use crate::machine::EngineCommand;
+use crate::packed_answers;
+use crate::reason::{ParseError, Reason};
 use program::program::Program;
-use render::line::write_line;
-use render::packed_answers;
 use std::alloc::{AllocError, Global};
-use tokens::line::{next_token, without_remark};
+use text::line::{next_token, without_remark};
 
 // What a scenario has set up so far.
 #[derive(Drop)]
@@ -71,19 +71,19 @@ pub fn write_reason(out: &mut Vec<u8>, reason: Reason) -> Result<(), AllocError>
     write_line(out, line.as_str())
 }
 
-// Answers a line by what an engine told.
-pub fn write_told(out: &mut Vec<u8>, line: &[u8], told: &str) -> Result<(), AllocError>
-    ensures { OnOk result (out.new.items ≡ out.old.items ++ told_line (words_of line.now) told.now) }
+// Answers a line by an engine's reply.
+pub fn write_reply(out: &mut Vec<u8>, line: &[u8], reply: &str) -> Result<(), AllocError>
+    ensures { OnOk result (out.new.items ≡ out.old.items ++ reply_line (words_of line.now) reply.now) }
 {
-    write_answer(out, words_of(line), told)
+    write_answer(out, words_of(line), reply)
 }
 
-// The line of an answer: the tokens, the arrow and what is told.
-fn write_answer(out: &mut Vec<u8>, text: &[u8], told: &str) -> Result<(), AllocError>
-    ensures { OnOk result (out.new.items ≡ out.old.items ++ told_line text.now told.now) }
+// The line of an answer: the tokens, the arrow and the reply.
+fn write_answer(out: &mut Vec<u8>, text: &[u8], reply: &str) -> Result<(), AllocError>
+    ensures { OnOk result (out.new.items ≡ out.old.items ++ reply_line text.now reply.now) }
 {
     write_head(out, text)?;
-    write_line(out, told)
+    write_line(out, reply)
 }
 
 impl Console {
@@ -126,15 +126,15 @@ impl Console {
                 Ok(Next::Line)
             }
             Command::Memory(buffer) => {
-                let told = format!(in *out.allocator(); "words {}", buffer.words())?;
+                let reply = format!(in *out.allocator(); "words {}", buffer.words())?;
                 self.memory = Some(buffer);
-                write_answer(out, text, told.as_str())?;
+                write_answer(out, text, reply.as_str())?;
                 Ok(Next::Line)
             }
             Command::Outlet(buffer) => {
-                let told = format!(in *out.allocator(); "room {}", buffer.room())?;
+                let reply = format!(in *out.allocator(); "room {}", buffer.room())?;
                 self.outlet = Some(buffer);
-                write_answer(out, text, told.as_str())?;
+                write_answer(out, text, reply.as_str())?;
                 Ok(Next::Line)
             }
             Command::Make(settings) => self.order(text, settings, out),

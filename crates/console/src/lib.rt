@@ -1,4 +1,19 @@
-// The console: what a line of a scenario comes to.
+// The console: a line of a scenario as a command, and what the line comes to.
 #![tactic(auto)]
 
+pub mod buffers;
+pub mod command;
 pub mod console;
+mod entries;
+pub mod kind;
+pub mod line;
+pub mod machine;
+mod moves;
+pub mod packed_answers;
+pub mod packed_command;
+mod packed_form;
+pub mod reason;
+pub mod replies;
+pub mod reply_texts;
+mod setting;
+mod words;

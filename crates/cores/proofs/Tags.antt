@@ -53,9 +53,9 @@ pub copied_all : (ls : List Line) (before after : List ℕ) (n : ℕ) → n ≡ 
 copied_all ls before after n long all d enough =
     let within : n ≤ length (tags ls) = omega (arith, long) in
     let front : take n after ≡ tags ls =
-        ap (take n) all ∙ take-append-le n (tags ls) (drop n before) within ∙ take_all n (tags ls) (omega (arith, long)) in
+    ap (take n) all ∙ take-append-le n (tags ls) (drop n before) within ∙ take_all n (tags ls) (omega (arith, long)) in
     let back : drop n after ≡ drop n before =
-        ap (drop n) all ∙ drop-append-le n (tags ls) (drop n before) within ∙ ap (λ l. l ++ drop n before) (drop_all n (tags ls) (omega (arith, long))) in
+    ap (drop n) all ∙ drop-append-le n (tags ls) (drop n before) within ∙ ap (λ l. l ++ drop n before) (drop_all n (tags ls) (omega (arith, long))) in
     rw (le-leb (length (tags ls)) (length before) (omega (arith, long))) (
       n,
       refl,

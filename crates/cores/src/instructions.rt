@@ -51,7 +51,11 @@ fn jumps(context: &Context, passes: bool, target: Immediate) -> Action
     requires { context.now.pc < 511 }
     ensures { result ≡ Performs (Jumps (if passes then target.value else suc context.now.pc)) }
 {
-    let pc = if passes { target.value() as usize } else { context.pc + 1 };
+    let pc = if passes {
+        target.value() as usize
+    } else {
+        context.pc + 1
+    };
     Action::Performs(Operation::Jumps { pc })
 }
 
@@ -79,12 +83,8 @@ pub(crate) fn action_of(instruction: Instruction, context: &Context) -> Action
     match instruction {
         Instruction::Halt => Action::Halts,
         Instruction::Set { d, n } => sets(d, n.value()),
-        Instruction::Add { d, a, b } => {
-            sets(d, read(context, a).wrapping_add(read(context, b)))
-        }
-        Instruction::Sub { d, a, b } => {
-            sets(d, read(context, a).wrapping_sub(read(context, b)))
-        }
+        Instruction::Add { d, a, b } => { sets(d, read(context, a).wrapping_add(read(context, b))) }
+        Instruction::Sub { d, a, b } => { sets(d, read(context, a).wrapping_sub(read(context, b))) }
         Instruction::Mean { d, a, b } => {
             let sum = u64::from(read(context, a)) + u64::from(read(context, b));
             sets(d, (sum / 2) as u32)

@@ -1,6 +1,6 @@
 // One core as a state machine: its context and its write buffer, and a step of it over what the cores share.
 ghost use Rattle.std.specs.Prelude.{◌≡◌, ◌<◌, ◌≤◌, length, true, false, MatchOption};
-ghost use Rattle.answers.specs.declared.answer.Answer.TheVariants.{Running};
+ghost use Rattle.formats.specs.declared.answer.Answer.TheVariants.{Running};
 ghost use Rattle.formats.specs.declared.entry.Mark.TheVariants.{Discarded};
 ghost use Rattle.model.specs.declared.state.State.TheVariants.{Bypass, Transaction, Commit, EarlyFlush, EarlyCommit};
 ghost use Rattle.model.specs.declared.effect.Effect.TheVariants.{Nothing};
@@ -19,7 +19,7 @@ ghost use Rattle.cores.specs.Steps.{affected, written, stepped_of, Attempted};
 use crate::buffer::Buffer;
 use crate::instructions::{accesses, action_of, outside, pass, set};
 use crate::shared::Shared;
-use answers::answer::{Answer, Fault};
+use formats::answer::{Answer, Fault};
 use formats::below::CoreNumber;
 use formats::bounds::{MOST_BEGINS, MOST_ENTRIES, MOST_PERFORMED};
 use formats::entry::Mark;
@@ -142,7 +142,11 @@ impl Core {
     /// One step, by the core's state and its instruction, in place. Refused where the record has not the free entries that it
     /// asks for: one, or two if another core has the token; then nothing changes.
     #[tactic(auto, unfolding(model::specs::Instructions::action_at, model::specs::Instructions::decision_at))]
-    pub fn step<M: Memory, O: Outlet>(&mut self, me: CoreNumber, shared: &mut Shared<M, O>) -> Result<Stepped, StepRefusal>
+    pub fn step<M: Memory, O: Outlet>(
+        &mut self,
+        me: CoreNumber,
+        shared: &mut Shared<M, O>,
+    ) -> Result<Stepped, StepRefusal>
         ensures { Attempted shared.old me.value self.old self.new shared.new result }
     {
         if !shared.has_entries(me) {
@@ -326,7 +330,12 @@ impl Core {
     }
 
     // A step in BYPASS.
-    fn in_bypass<M: Memory, O: Outlet>(&mut self, action: Action, me: CoreNumber, shared: &mut Shared<M, O>) -> Stepped
+    fn in_bypass<M: Memory, O: Outlet>(
+        &mut self,
+        action: Action,
+        me: CoreNumber,
+        shared: &mut Shared<M, O>,
+    ) -> Stepped
         requires state { self.old.state ≡ Bypass }
         requires room { length shared.old.entries < MOST_ENTRIES }
         requires onward { Onward self.old.context.pc action }
@@ -459,7 +468,12 @@ impl Core {
     }
 
     // An operation in TRANSACTION: loads and stores go to the lines, sending waits for the token.
-    fn buffer<M: Memory, O: Outlet>(&mut self, operation: Operation, me: CoreNumber, shared: &mut Shared<M, O>) -> Stepped
+    fn buffer<M: Memory, O: Outlet>(
+        &mut self,
+        operation: Operation,
+        me: CoreNumber,
+        shared: &mut Shared<M, O>,
+    ) -> Stepped
         requires state { self.old.state ≡ Transaction }
         requires count { self.old.count < MOST_PERFORMED }
         requires onward { OnwardBy self.old.context.pc operation }
@@ -529,7 +543,11 @@ impl Core {
     }
 
     // A step in COMMIT: the oldest dirty line is written; with the last one the block ends.
-    fn in_commit<M: Memory, O: Outlet>(&mut self, me: CoreNumber, shared: &mut Shared<M, O>) -> Stepped
+    fn in_commit<M: Memory, O: Outlet>(
+        &mut self,
+        me: CoreNumber,
+        shared: &mut Shared<M, O>,
+    ) -> Stepped
         requires state { self.old.state ≡ Commit }
         requires room { length shared.old.entries < MOST_ENTRIES }
         ensures core { self.new ≡ (in_commit shared.old me.value self.old).core }

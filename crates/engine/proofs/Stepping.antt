@@ -38,7 +38,7 @@ module _
       let tried : Attempted s i (get_or cs i blank) core after (Ok r) = rw (who, lent) at t in
       let o : Outcome = outcome s i (get_or cs i blank) in
       let reached : after_broadcast wrote i (set cs i core) ≡ set (map (core_after o.effect) cs) i o.core =
-          rw (← is, tried.3, tried.1) (cores_same o.effect i cs o.core) in
+      rw (← is, tried.3, tried.1) (cores_same o.effect i cs o.core) in
       rw (← view, lt-ltb i (length cs) within, tried.0, reached, tried.2, tried.3) (refl, refl)
 
   -- the step was refused

@@ -65,7 +65,11 @@ impl CoreTable {
     pub(crate) fn number(&self, i: usize) -> Option<CoreNumber>
         ensures { MatchOption result (length self.now ≤ i) (λ n. (i < length self.now) × (n.value ≡ i)) }
     {
-        if i < self.len() { CoreNumber::new(i as u32) } else { None }
+        if i < self.len() {
+            CoreNumber::new(i as u32)
+        } else {
+            None
+        }
     }
 
     // A core by its number, or None where there is no such core.

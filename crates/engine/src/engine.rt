@@ -8,13 +8,13 @@ ghost use Rattle.engine.specs.Engines.{held_as, given_as};
 use crate::core_table::CoreTable;
 use crate::pass::Pass;
 use crate::settings::Settings;
-use answers::answer::Answer;
-use answers::refusal::NothingWaits;
 use cores::record::Record;
 use cores::shared::Shared;
 use cores::state_machine::Core;
+use formats::answer::Answer;
 use formats::bounds::MOST_LINES;
 use formats::entry::{RecordEntry, SentEntry};
+use formats::refusal::NothingWaits;
 use memory::shared::Memory;
 use model::refusal::{
     ClearRefusal, GiveBackRefusal, HoldRefusal, ReadRefusal, RecordRefusal, StepRefusal,

@@ -9,9 +9,9 @@ ghost use Rattle.engine.specs.Engines.{host_has};
 use crate::engine::Engine;
 use crate::pass::Pass;
 use crate::settings::Settings;
-use answers::answer::Answer;
-use answers::refusal::NothingWaits;
+use formats::answer::Answer;
 use formats::entry::{RecordEntry, SentEntry};
+use formats::refusal::NothingWaits;
 use memory::shared::Memory;
 use model::call::{Call, Reply};
 use model::refusal::{

@@ -1,5 +1,2 @@
-pub mod Belows
-pub mod Bytes
-pub mod Instructions
-pub mod Records
-pub mod Sents
+pub mod Codes
+pub mod Entries

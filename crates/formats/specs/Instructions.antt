@@ -1,8 +1,8 @@
 -- An instruction as one word: five fields, most significant first.
 -- Assumes nothing.
 use Rattle.std.specs.Prelude.{ℕ, ◌+◌, ◌*◌, ◌/◌, ◌%◌, Bool, true, false, cond, ◌&&◌, List, Ok, Err, Result, ◌==◌, nat_eq, nat_lt}
-use Rattle.answers.specs.declared.refusal.InstructionFault.{InstructionFault}
-use Rattle.answers.specs.declared.refusal.InstructionFault.TheVariants.{UnknownOpcode, BadField}
+use Rattle.formats.specs.declared.refusal.InstructionFault.{InstructionFault}
+use Rattle.formats.specs.declared.refusal.InstructionFault.TheVariants.{UnknownOpcode, BadField}
 use Rattle.formats.specs.declared.below.Below.{Below}
 use Rattle.formats.specs.declared.register.Register.{Register}
 use Rattle.formats.specs.declared.register.Register.TheVariants.{R0}

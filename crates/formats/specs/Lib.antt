@@ -1,6 +1,14 @@
+pub mod Answers
+pub mod Refusals
 pub mod Bytes
 pub mod Belows
 pub mod Registers
 pub mod Instructions
 pub mod Records
 pub mod Sents
+pub mod PackedList
+pub mod BelowLemmas
+pub mod ByteLemmas
+pub mod InstructionLemmas
+pub mod RecordLemmas
+pub mod SentLemmas

@@ -1,8 +1,8 @@
 -- A record entry as one word: core 3 bits, mark 2, zero 11, count 16.
 -- Assumes nothing.
 use Rattle.std.specs.Prelude.{ℕ, ◌+◌, ◌*◌, ◌/◌, ◌%◌, Bool, cond, ◌&&◌, List, Ok, Err, Result, ◌==◌, nat_le}
-use Rattle.answers.specs.declared.refusal.EntryFault.{EntryFault}
-use Rattle.answers.specs.declared.refusal.EntryFault.TheVariants.{OutOfRange}
+use Rattle.formats.specs.declared.refusal.EntryFault.{EntryFault}
+use Rattle.formats.specs.declared.refusal.EntryFault.TheVariants.{OutOfRange}
 use Rattle.formats.specs.declared.entry.Mark.{Mark}
 use Rattle.formats.specs.declared.entry.Mark.TheVariants.{Completed, Discarded, Kept}
 use Rattle.formats.specs.declared.entry.RecordEntry.{RecordEntry}

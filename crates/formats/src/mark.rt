@@ -3,7 +3,7 @@ ghost use Rattle.std.specs.Prelude.{◌≡◌};
 ghost use Rattle.formats.specs.Records.{mark_number, mark_from};
 
 use crate::entry::Mark;
-use answers::refusal::EntryFault;
+use crate::refusal::EntryFault;
 
 impl Mark {
     // 0 to 2.

@@ -1,10 +1,12 @@
 // A scenario that is read line by line, and what it prints.
-use answering::answering::tell_answer;
-use buffers::buffers::{MemoryBuffer, OutletBuffer};
-use commands::machine::EngineCommand;
-use commands::reason::Reason;
-use console::console::{Console, Next, Order, write_reason, write_told};
-use desk::desk::Desk;
+use console::buffers::{MemoryBuffer, OutletBuffer};
+use console::console::{Console, Next, Order, write_reason, write_reply};
+use console::line::write_line;
+use console::machine::EngineCommand;
+use console::reason::Reason;
+use console::replies::command_reply;
+use console::reply_texts::made_reply;
+use engine::hosted::Hosted;
 use engine::settings::Settings;
 use memory::bytes::ByteMemory;
 use memory::shared::Memory;
@@ -12,8 +14,6 @@ use memory::words::WordMemory;
 use outlet::bytes::ByteOutlet;
 use outlet::store::StoreOutlet;
 use outlet::waiting::Outlet;
-use render::line::write_line;
-use render::tell::tell_made;
 use std::io;
 use std::io::{BufRead, BufReader, Read, Write};
 
@@ -154,8 +154,8 @@ impl<'a, R: Read + Drop> Scenario<'a, R> {
         outlet: OutletBuffer,
     ) -> io::Result<Option<Order>> {
         let checked = settings.check(memory.len());
-        let told = tell_made(self.rt.alloc(), checked, settings.places.len())?;
-        write_line(&mut self.out, told.as_str())?;
+        let reply = made_reply(self.rt.alloc(), checked, settings.places.len())?;
+        write_line(&mut self.out, reply.as_str())?;
         match outlet {
             OutletBuffer::Store => self.play_outlet(settings, memory, StoreOutlet::new()),
             OutletBuffer::Bytes(mut bytes) => {
@@ -181,9 +181,9 @@ impl<'a, R: Read + Drop> Scenario<'a, R> {
         memory: M,
         outlet: O,
     ) -> io::Result<Option<Order>> {
-        let mut desk = Desk::make(settings, memory, outlet);
-        let next = self.play_with_engine(&mut desk);
-        let held = desk.close();
+        let mut hosted = Hosted::make(settings, memory, outlet);
+        let next = self.play_with_engine(&mut hosted);
+        let held = hosted.close();
         let order = next?;
         if held && order.is_none() {
             write_line(&mut self.out, "(end) give back -> given back")?;
@@ -194,12 +194,12 @@ impl<'a, R: Read + Drop> Scenario<'a, R> {
     // Plays lines, with the answers of an engine.
     fn play_with_engine<M: Memory, O: Outlet>(
         &mut self,
-        desk: &mut Desk<M, O>,
+        hosted: &mut Hosted<M, O>,
     ) -> io::Result<Option<Order>> {
         let heap = self.rt.alloc();
         self.play_lines(|command, line, out| {
-            let told = tell_answer(heap, desk, command)?;
-            Ok(write_told(out, line, told.as_str())?)
+            let reply = command_reply(heap, hosted, command)?;
+            Ok(write_reply(out, line, reply.as_str())?)
         })
     }
 }

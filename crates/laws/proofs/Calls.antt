@@ -5,7 +5,7 @@ use Rattle.std.proofs.Math.Option.{none}
 use Rattle.std.proofs.lemmas.List.{append_assoc, append-nil}
 use Rattle.std.proofs.lemmas.Bool.Decides.{nat_tests}
 use lib.ListN.{length-map}
-use Rattle.answers.specs.declared.answer.Answer.{Answer}
+use Rattle.formats.specs.declared.answer.Answer.{Answer}
 use Rattle.formats.specs.declared.bounds.TheConstants.{MOST_CORES}
 use Rattle.formats.specs.declared.entry.SentEntry.{SentEntry}
 use Rattle.formats.specs.declared.instruction.Instruction.{Instruction}

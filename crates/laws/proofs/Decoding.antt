@@ -2,7 +2,7 @@
 -- Assumes nothing.
 use Rattle.std.proofs.Common.{◌≡◌, ℕ, true, false, List, arith, Ok, Err}
 use Rattle.std.proofs.lemmas.Bool.Decides.{nat_tests}
-use Rattle.answers.specs.declared.answer.Fault.TheVariants.{RetryAfterEarly}
+use Rattle.formats.specs.declared.answer.Fault.TheVariants.{RetryAfterEarly}
 use Rattle.formats.specs.declared.instruction.Instruction.{Instruction}
 use Rattle.model.specs.declared.context.Context.{Context}
 use Rattle.model.specs.declared.action.Action.{Action}

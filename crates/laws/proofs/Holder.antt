@@ -3,8 +3,8 @@
 use Rattle.std.proofs.Common.{◌≡◌, ℕ, suc, ◌<◌, true, false, List, [], ◌∷◌, ◌++◌, length, sym, refl, ◌∙◌, arith, Ok, Err}
 use Rattle.std.proofs.lemmas.List.{append-nil}
 use Rattle.std.proofs.lemmas.Bool.{cond_both, eq-eqb}
-use Rattle.answers.specs.declared.answer.Answer.{Answer}
-use Rattle.answers.specs.declared.answer.Answer.TheVariants.{Running, Done, Committing, Early, Full, Faulted}
+use Rattle.formats.specs.declared.answer.Answer.{Answer}
+use Rattle.formats.specs.declared.answer.Answer.TheVariants.{Running, Done, Committing, Early, Full, Faulted}
 use Rattle.formats.specs.declared.entry.Mark.TheVariants.{Completed, Kept}
 use Rattle.model.specs.declared.state.State.{State}
 use Rattle.model.specs.declared.state.State.TheVariants.{Bypass, Commit, EarlyFlush, EarlyCommit, Stopped}

@@ -3,9 +3,9 @@
 use Rattle.std.proofs.Common.{◌≡◌, ℕ, ◌<◌, true, false, List, [], ◌++◌, length, refl, arith}
 use Rattle.std.proofs.lemmas.List.{append_assoc, append-nil}
 use Rattle.std.proofs.lemmas.Bool.{cond_both}
-use Rattle.answers.specs.declared.answer.Fault.{Fault}
-use Rattle.answers.specs.declared.answer.Fault.TheVariants.{AddressOutside, NoOpenBlock}
-use Rattle.answers.specs.declared.answer.Answer.TheVariants.{Running, Waiting, Done, Full, RolledBack, Faulted, Stopped as SaysStopped}
+use Rattle.formats.specs.declared.answer.Fault.{Fault}
+use Rattle.formats.specs.declared.answer.Fault.TheVariants.{AddressOutside, NoOpenBlock}
+use Rattle.formats.specs.declared.answer.Answer.TheVariants.{Running, Waiting, Done, Full, RolledBack, Faulted, Stopped as SaysStopped}
 use Rattle.formats.specs.declared.entry.Mark.TheVariants.{Completed, Discarded}
 use Rattle.formats.specs.declared.entry.SentEntry.{SentEntry}
 use Rattle.model.specs.declared.state.State.{State}

@@ -2,8 +2,8 @@
 -- Assumes nothing.
 use Rattle.std.proofs.Common.{◌≡◌, ℕ, ◌↔◌, List, arith}
 use Rattle.std.proofs.Math.Option.{Option}
-use Rattle.answers.specs.declared.answer.Answer.{Answer}
-use Rattle.answers.specs.declared.answer.Answer.TheVariants.{RolledBack}
+use Rattle.formats.specs.declared.answer.Answer.{Answer}
+use Rattle.formats.specs.declared.answer.Answer.TheVariants.{RolledBack}
 use Rattle.model.specs.declared.state.State.{State}
 use Rattle.model.specs.declared.call.Call.{Call}
 use Rattle.model.specs.declared.call.Call.TheVariants.{Step, Turn}

@@ -4,9 +4,9 @@ use Rattle.std.proofs.Common.{◌≡◌, ℕ, suc, ◌<◌, true, false, ltb, co
 use Rattle.std.proofs.lemmas.List.{append-nil}
 use Rattle.std.proofs.lemmas.Bool.Decides.{nat_tests}
 use Rattle.std.proofs.lemmas.Bool.{cond_both}
-use Rattle.answers.specs.declared.answer.Fault.{Fault}
-use Rattle.answers.specs.declared.answer.Answer.{Answer}
-use Rattle.answers.specs.declared.answer.Answer.TheVariants.{Running, Done, Committing, Early, Retried, Faulted}
+use Rattle.formats.specs.declared.answer.Fault.{Fault}
+use Rattle.formats.specs.declared.answer.Answer.{Answer}
+use Rattle.formats.specs.declared.answer.Answer.TheVariants.{Running, Done, Committing, Early, Retried, Faulted}
 use Rattle.formats.specs.declared.entry.Mark.TheVariants.{Completed, Discarded}
 use Rattle.formats.specs.declared.entry.SentEntry.{SentEntry}
 use Rattle.model.specs.declared.state.State.{State}

@@ -7,7 +7,7 @@ use Rattle.std.specs.Borrow.{Bor}
 use Rattle.std.specs.Prelude.{map}
 use Rattle.std.specs.Result.{IsErr}
 use Rattle.std.specs.Slice.{IsItemAt}
-use Rattle.answers.specs.declared.refusal.OutsideMemory.{OutsideMemory}
+use Rattle.formats.specs.declared.refusal.OutsideMemory.{OutsideMemory}
 use Rattle.memory.specs.Shared.{word_at}
 
 -- the front, cut at the lesser of its bound and the list's length

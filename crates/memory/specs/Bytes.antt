@@ -1,7 +1,7 @@
 -- A memory over handed-in bytes, four to a word, most significant first: its words, and what a write leaves of all bytes.
 use Rattle.std.specs.Prelude.{ℕ, ◌+◌, ◌*◌, ◌/◌, ◌%◌, cond, List, [], ◌∷◌, ◌++◌, length, take, drop, nat_lt}
 use Rattle.std.specs.Borrow.{MutBor}
-use Rattle.memory.specs.Beside.{Beside, over}
+use Rattle.memory.specs.Backing.{Backing, over}
 
 -- the word of four bytes
 abbrev pub word_of : ℕ → ℕ → ℕ → ℕ → ℕ
@@ -23,9 +23,9 @@ words_in (a ∷ b ∷ c ∷ d ∷ rest) = word_of a b c d ∷ words_in rest
 abbrev pub memory_in : List ℕ → List ℕ
 memory_in bytes = take 65536 (words_in bytes)
 
--- beside it: the bytes past its words
-abbrev pub bytes_beside : MutBor (List ℕ) → Beside
-bytes_beside bytes = over bytes.ghost_name (drop (4 * length (memory_in bytes.now)) bytes.now)
+-- its backing: the bytes past its words
+abbrev pub bytes_backing : MutBor (List ℕ) → Backing
+bytes_backing bytes = over bytes.ghost_name (drop (4 * length (memory_in bytes.now)) bytes.now)
 
 -- a list with others in the place of as many of its elements, from a place on
 abbrev pub pasted : List ℕ → ℕ → List ℕ → List ℕ

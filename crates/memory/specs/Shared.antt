@@ -1,6 +1,6 @@
 -- What reading and writing a shared memory answer and leave, over the list of words that it means.
 use Rattle.std.specs.Prelude.{ℕ, cond, List, length, Ok, Err, Result, nat_lt, slice_index, slice_set}
-use Rattle.answers.specs.declared.refusal.OutsideMemory.{OutsideMemory}
+use Rattle.formats.specs.declared.refusal.OutsideMemory.{OutsideMemory}
 
 -- what reading an address answers: the word there, or the refusal of an address outside
 abbrev pub word_at : List ℕ → ℕ → Result ℕ OutsideMemory

@@ -1,15 +1,15 @@
 -- A memory over handed-in words: which of them it is, and what a write leaves of all of them.
 use Rattle.std.specs.Prelude.{ℕ, cond, List, length, take, drop, nat_lt, slice_set}
 use Rattle.std.specs.Borrow.{MutBor}
-use Rattle.memory.specs.Beside.{Beside, over}
+use Rattle.memory.specs.Backing.{Backing, over}
 
 -- the memory: the first 65,536 of the words handed in
 abbrev pub memory_of : List ℕ → List ℕ
 memory_of all = take 65536 all
 
--- beside it: those past them
-abbrev pub words_beside : MutBor (List ℕ) → Beside
-words_beside all = over all.ghost_name (drop 65536 all.now)
+-- its backing: those past them
+abbrev pub words_backing : MutBor (List ℕ) → Backing
+words_backing all = over all.ghost_name (drop 65536 all.now)
 
 -- all handed-in words after writing an address: that word alone is replaced, if the memory has it
 abbrev pub all_written : List ℕ → ℕ → ℕ → List ℕ

@@ -2,10 +2,10 @@
 ghost use Rattle.std.specs.Prelude.{◌≡◌, map};
 ghost use Rattle.std.specs.Int.{from_be_bytes, w32};
 ghost use Rattle.memory.specs.Shared.{written, write_answer};
-ghost use Rattle.memory.specs.Bytes.{memory_in, bytes_beside, bytes_written};
+ghost use Rattle.memory.specs.Bytes.{memory_in, bytes_backing, bytes_written};
 
 use crate::shared::{MOST_WORDS, Memory};
-use answers::refusal::OutsideMemory;
+use formats::refusal::OutsideMemory;
 
 // The first 65,536 whole words in `bytes` are the memory; the bytes past them are never touched.
 #[derive(Drop)]
@@ -34,7 +34,7 @@ impl<'a> ByteMemory<'a> {
 impl<'a> Memory for ByteMemory<'a> {
     ghost words = { λ m. memory_in m.bytes.now };
 
-    ghost beside = { λ m. bytes_beside m.bytes };
+    ghost backing = { λ m. bytes_backing m.bytes };
 
     fn len(&self) -> usize {
         self.words().len()
@@ -48,7 +48,7 @@ impl<'a> Memory for ByteMemory<'a> {
     fn write(&mut self, address: usize, word: u32) -> Result<(), OutsideMemory>
         ensures value { result ≡ write_answer (memory_in self.old.bytes.now) address }
         ensures after { memory_in self.new.bytes.now ≡ written (memory_in self.old.bytes.now) address word }
-        ensures same { bytes_beside self.new.bytes ≡ bytes_beside self.old.bytes }
+        ensures same { bytes_backing self.new.bytes ≡ bytes_backing self.old.bytes }
         ensures buffer { self.new.bytes.now ≡ bytes_written self.old.bytes.now address word }
     {
         self.read(address)?;

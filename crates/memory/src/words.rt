@@ -1,10 +1,10 @@
 // A shared memory over a handed-in list of words.
 ghost use Rattle.std.specs.Prelude.{◌≡◌};
 ghost use Rattle.memory.specs.Shared.{written, write_answer};
-ghost use Rattle.memory.specs.Words.{memory_of, words_beside, all_written};
+ghost use Rattle.memory.specs.Words.{memory_of, words_backing, all_written};
 
 use crate::shared::{MOST_WORDS, Memory};
-use answers::refusal::OutsideMemory;
+use formats::refusal::OutsideMemory;
 
 // The first 65,536 words of `all` are the memory; those past them are never touched.
 #[derive(Drop)]
@@ -32,7 +32,7 @@ impl<'a> WordMemory<'a> {
 impl<'a> Memory for WordMemory<'a> {
     ghost words = { λ m. memory_of m.all.now };
 
-    ghost beside = { λ m. words_beside m.all };
+    ghost backing = { λ m. words_backing m.all };
 
     fn len(&self) -> usize {
         self.words().len()
@@ -45,7 +45,7 @@ impl<'a> Memory for WordMemory<'a> {
     fn write(&mut self, address: usize, word: u32) -> Result<(), OutsideMemory>
         ensures value { result ≡ write_answer (memory_of self.old.all.now) address }
         ensures after { memory_of self.new.all.now ≡ written (memory_of self.old.all.now) address word }
-        ensures same { words_beside self.new.all ≡ words_beside self.old.all }
+        ensures same { words_backing self.new.all ≡ words_backing self.old.all }
         ensures buffer { self.new.all.now ≡ all_written self.old.all.now address word }
     {
         // By index, and not by get_mut: nothing is known of a slice afterwards that was lent out by it.

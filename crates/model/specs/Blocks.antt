@@ -8,8 +8,8 @@
 -- Assumes nothing.
 use Rattle.std.specs.Prelude.{◌≡◌, ℕ, if◌then◌else◌, ◌≢◌, ◌⊎◌, List, [], ◌∷◌, ◌==◌}
 use Rattle.std.proofs.Math.Option.{Option, none, some}
-use Rattle.answers.specs.declared.answer.Answer.{Answer}
-use Rattle.answers.specs.declared.answer.Answer.TheVariants.{Running, Done, RolledBack, Retried, Faulted}
+use Rattle.formats.specs.declared.answer.Answer.{Answer}
+use Rattle.formats.specs.declared.answer.Answer.TheVariants.{Running, Done, RolledBack, Retried, Faulted}
 use Rattle.model.specs.declared.action.Operation.TheVariants.{Loads, Stores}
 use Rattle.model.specs.declared.action.Action.{Action}
 use Rattle.model.specs.declared.action.Action.TheVariants.{Performs}

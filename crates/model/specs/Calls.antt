@@ -6,8 +6,8 @@
 use Rattle.std.specs.Prelude.{◌≡◌, ℕ, suc, ◌+◌, if◌then◌else◌, List, [], ◌∷◌, length, map, take, drop, Some, None, Ok, Err, Option, Result, ◌==◌}
 use Rattle.std.specs.Prelude.{nat_le, nat_lt, slice_get, slice_index, count_by, Bool, MatchBool}
 use Rattle.std.specs.Option.{ok_or}
-use Rattle.answers.specs.declared.answer.Answer.{Answer}
-use Rattle.answers.specs.declared.refusal.NothingWaits.{NothingWaits}
+use Rattle.formats.specs.declared.answer.Answer.{Answer}
+use Rattle.formats.specs.declared.refusal.NothingWaits.{NothingWaits}
 use Rattle.formats.specs.declared.bounds.TheConstants.{MOST_ENTRIES}
 use Rattle.formats.specs.declared.entry.RecordEntry.{RecordEntry}
 use Rattle.formats.specs.declared.entry.SentEntry.{SentEntry}
@@ -152,7 +152,12 @@ Tags e i before after answer =
 -- status: a core as people see it; none where there is no such core
 abbrev pub status_of : Core → Status
 status_of c = record {
-  state = c.state; pc = c.context.pc; registers = c.context.registers; depth = c.depth; count = c.count; used = length c.lines
+  state = c.state;
+  pc = c.context.pc;
+  registers = c.context.registers;
+  depth = c.depth;
+  count = c.count;
+  used = length c.lines;
 }
 
 abbrev pub status : Engine → ℕ → Option Status

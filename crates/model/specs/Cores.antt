@@ -5,11 +5,11 @@
 --   outcome   what a step comes to, by the core's state and its instruction
 -- Assumes nothing.
 use Rattle.std.specs.Prelude.{ℕ, suc, Bool, true, false, if◌then◌else◌, ◌&&◌, List, [], ◌∷◌, ◌++◌, length, Ok, Err, ◌==◌, nat_lt, slice_index}
-use Rattle.answers.specs.declared.answer.Fault.{Fault}
-use Rattle.answers.specs.declared.answer.Fault.TheVariants.{AddressOutside, NoOpenBlock}
-use Rattle.answers.specs.declared.answer.Answer.{Answer}
-use Rattle.answers.specs.declared.answer.Answer.TheVariants.{Running, Waiting, Done, Committing, Early, Full, RolledBack, Retried, Faulted}
-use Rattle.answers.specs.declared.answer.Answer.TheVariants.{Stopped as SaysStopped}
+use Rattle.formats.specs.declared.answer.Fault.{Fault}
+use Rattle.formats.specs.declared.answer.Fault.TheVariants.{AddressOutside, NoOpenBlock}
+use Rattle.formats.specs.declared.answer.Answer.{Answer}
+use Rattle.formats.specs.declared.answer.Answer.TheVariants.{Running, Waiting, Done, Committing, Early, Full, RolledBack, Retried, Faulted}
+use Rattle.formats.specs.declared.answer.Answer.TheVariants.{Stopped as SaysStopped}
 use Rattle.formats.specs.declared.entry.Mark.{Mark}
 use Rattle.formats.specs.declared.entry.Mark.TheVariants.{Completed, Discarded, Kept}
 use Rattle.formats.specs.declared.entry.RecordEntry.{RecordEntry}

@@ -55,12 +55,12 @@ all_below xs n = list_all (λ x. nat_lt x n) xs
 abbrev pub check : Settings → (words : ℕ) → Result (Unit {0}) CheckRefusal
 check s words =
     if up_to (length s.places) MOST_CORES then
-      (if up_to s.lines MOST_LINES then
-        (if up_to words MOST_ENGINE_WORDS then
-          (if all_below s.places (length s.program) then Ok tt else Err EntryOutside)
-          else Err MemoryLength)
-        else Err LineCount)
-      else Err CoreCount
+    (if up_to s.lines MOST_LINES then
+    (if up_to words MOST_ENGINE_WORDS then
+    (if all_below s.places (length s.program) then Ok tt else Err EntryOutside)
+    else Err MemoryLength)
+    else Err LineCount)
+    else Err CoreCount
 
 -- a context at an instruction with all registers zero
 abbrev pub new_context : ℕ → Context

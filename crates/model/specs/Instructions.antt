@@ -6,8 +6,8 @@
 -- Assumes nothing.
 use Rattle.std.specs.Prelude.{ℕ, suc, ◌+◌, ◌-◌, ◌/◌, ◌%◌, ◌^◌, Bool, false, if◌then◌else◌, List, [], ◌∷◌, Ok, Err, Result, ◌==◌, nat_lt, nat_le}
 use Rattle.std.specs.Prelude.{slice_index, slice_index_or, slice_set}
-use Rattle.answers.specs.declared.answer.Fault.{Fault}
-use Rattle.answers.specs.declared.answer.Fault.TheVariants.{AddressOutside, TooDeep, TooLong, HaltInBlock, RetryAfterEarly}
+use Rattle.formats.specs.declared.answer.Fault.{Fault}
+use Rattle.formats.specs.declared.answer.Fault.TheVariants.{AddressOutside, TooDeep, TooLong, HaltInBlock, RetryAfterEarly}
 use Rattle.formats.specs.declared.bounds.TheConstants.{MOST_BEGINS, MOST_PERFORMED}
 use Rattle.formats.specs.declared.register.Register.{Register}
 use Rattle.formats.specs.Registers.{register_number}

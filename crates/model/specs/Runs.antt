@@ -5,7 +5,7 @@
 --   replies, plays                  what the calls of a list answer, and the engine after them
 -- Assumes nothing.
 use Rattle.std.specs.Prelude.{ℕ, List, [], ◌∷◌, Ok}
-use Rattle.answers.specs.declared.answer.Answer.{Answer}
+use Rattle.formats.specs.declared.answer.Answer.{Answer}
 use Rattle.formats.specs.declared.entry.SentEntry.{SentEntry}
 use Rattle.model.specs.declared.call.Call.{Call}
 use Rattle.model.specs.declared.call.Call.TheVariants.{Step, Turn, Clear, Hold, Read, GiveBack, Take}

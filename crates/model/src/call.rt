@@ -1,8 +1,8 @@
 // The calls that change an engine or read its memory, as a list of them is played, and what each answers.
 use crate::refusal::{ClearRefusal, GiveBackRefusal, HoldRefusal, ReadRefusal, StepRefusal};
-use answers::answer::Answer;
-use answers::refusal::NothingWaits;
+use formats::answer::Answer;
 use formats::entry::SentEntry;
+use formats::refusal::NothingWaits;
 
 /// A call of the engine.
 #[derive(Clone, Copy, PartialEq, Eq, Debug)]

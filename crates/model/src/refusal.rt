@@ -2,7 +2,7 @@
 // One enum for each call, also where two ask the same question, so that a call's type says what it can be refused for.
 ghost use Rattle.model.specs.Refusals.{check_number, step_number, clear_number, hold_number, read_number, give_back_number, record_number, tags_number};
 
-use answers::refusal::Refusal;
+use formats::refusal::Refusal;
 
 /// Settings that are not accepted.
 #[derive(Clone, Copy, PartialEq, Eq, Debug)]

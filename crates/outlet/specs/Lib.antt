@@ -1,4 +1,4 @@
-pub mod Beside
+pub mod Backing
 pub mod Bytes
 pub mod Places
 pub mod Ring

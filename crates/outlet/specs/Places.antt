@@ -2,7 +2,7 @@
 use Rattle.std.specs.Prelude.{◌≡◌, ℕ, ◌+◌, ◌-◌, List}
 use Rattle.std.specs.Borrow.{MutBor}
 use Rattle.formats.specs.declared.entry.SentEntry.{SentEntry}
-use Rattle.outlet.specs.Beside.{Beside, over}
+use Rattle.outlet.specs.Backing.{Backing, over}
 use Rattle.outlet.specs.Bytes.{entries_in}
 use Rattle.outlet.specs.declared.ring.Ring.{Ring}
 use Rattle.outlet.specs.Ring.{wrapped, ring_of, count_claimed, first_released}
@@ -24,8 +24,8 @@ abbrev pub next_place : Ring → ℕ
 next_place ring = wrapped ring.places (ring.first + ring.count)
 
 -- what an outlet over bytes stands on
-abbrev pub bytes_beside : MutBor (List ℕ) → Ring → Beside
-bytes_beside bytes ring = over bytes.ghost_name bytes.now ring.first ring.count
+abbrev pub bytes_backing : MutBor (List ℕ) → Ring → Backing
+bytes_backing bytes ring = over bytes.ghost_name bytes.now ring.first ring.count
 
 -- a ring of so many places, none of them filled
 abbrev pub Empty : ℕ → Ring → Type 0

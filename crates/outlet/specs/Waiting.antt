@@ -1,7 +1,7 @@
 -- What sending, taking and looking at the room answer and leave, over the waiting entries and the room.
 use Rattle.std.specs.Prelude.{ℕ, ◌+◌, ◌-◌, cond, List, [], ◌∷◌, ◌++◌, Ok, Err, Result, nat_lt}
-use Rattle.answers.specs.declared.refusal.NoRoom.{NoRoom}
-use Rattle.answers.specs.declared.refusal.NothingWaits.{NothingWaits}
+use Rattle.formats.specs.declared.refusal.NoRoom.{NoRoom}
+use Rattle.formats.specs.declared.refusal.NothingWaits.{NothingWaits}
 use Rattle.formats.specs.declared.entry.SentEntry.{SentEntry}
 
 -- what sending answers: accepted exactly when room is above 0

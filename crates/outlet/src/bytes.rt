@@ -1,15 +1,15 @@
 // An outlet over handed-in bytes, which are a packed list of entries, five bytes to each.
 ghost use Rattle.std.specs.Prelude.{◌≡◌, ◌/◌, [], length};
-ghost use Rattle.outlet.specs.Beside.{beside_sent, beside_taken};
+ghost use Rattle.outlet.specs.Backing.{backing_sent, backing_taken};
 ghost use Rattle.outlet.specs.Bytes.{bytes_sent};
-ghost use Rattle.outlet.specs.Places.{waiting_in, room_in, next_place, bytes_beside, Empty, Claimed, Released};
+ghost use Rattle.outlet.specs.Places.{waiting_in, room_in, next_place, bytes_backing, Empty, Claimed, Released};
 ghost use Rattle.outlet.specs.Waiting.{send_answer, sent, room_sent, take_answer, taken, room_taken};
 
 use crate::ring::Ring;
 use crate::slot::{get, put};
 use crate::waiting::Outlet;
-use answers::refusal::{NoRoom, NothingWaits};
 use formats::entry::SentEntry;
+use formats::refusal::{NoRoom, NothingWaits};
 
 // Each whole five bytes are a slot for an entry; the bytes past the last slot are never touched.
 #[derive(Drop)]
@@ -41,14 +41,14 @@ impl<'a> Outlet for ByteOutlet<'a> {
 
     ghost room = { λ o. room_in o.ring };
 
-    ghost beside = { λ o. bytes_beside o.bytes o.ring };
+    ghost backing = { λ o. bytes_backing o.bytes o.ring };
 
     // Beyond what every outlet promises: the entry's bytes go into the next slot, and all other bytes stay.
     fn send(&mut self, entry: SentEntry) -> Result<(), NoRoom>
         ensures value { result ≡ send_answer (room_in self.old.ring) }
         ensures after { waiting_in self.new.bytes self.new.ring ≡ sent (waiting_in self.old.bytes self.old.ring) (room_in self.old.ring) entry }
         ensures left { room_in self.new.ring ≡ room_sent (room_in self.old.ring) }
-        ensures stands { bytes_beside self.new.bytes self.new.ring ≡ beside_sent (bytes_beside self.old.bytes self.old.ring) entry }
+        ensures stands { bytes_backing self.new.bytes self.new.ring ≡ backing_sent (bytes_backing self.old.bytes self.old.ring) entry }
         ensures buffer { self.new.bytes.now ≡ bytes_sent self.old.bytes.now (room_in self.old.ring) (next_place self.old.ring) entry }
         ensures holds { self.new.bytes.ghost_name ≡ self.old.bytes.ghost_name }
         ensures ring { Claimed self.old.ring self.new.ring }
@@ -63,7 +63,7 @@ impl<'a> Outlet for ByteOutlet<'a> {
         ensures value { result ≡ take_answer (waiting_in self.old.bytes self.old.ring) }
         ensures after { waiting_in self.new.bytes self.new.ring ≡ taken (waiting_in self.old.bytes self.old.ring) }
         ensures left { room_in self.new.ring ≡ room_taken (waiting_in self.old.bytes self.old.ring) (room_in self.old.ring) }
-        ensures stands { bytes_beside self.new.bytes self.new.ring ≡ beside_taken (bytes_beside self.old.bytes self.old.ring) }
+        ensures stands { bytes_backing self.new.bytes self.new.ring ≡ backing_taken (bytes_backing self.old.bytes self.old.ring) }
         ensures buffer { self.new.bytes.now ≡ self.old.bytes.now }
         ensures holds { self.new.bytes.ghost_name ≡ self.old.bytes.ghost_name }
         ensures ring { Released self.old.ring self.new.ring }

@@ -1,12 +1,12 @@
 // An outlet that is a store of its own, with room for 64 entries.
 ghost use Rattle.std.specs.Prelude.{◌≡◌, [], length};
-ghost use Rattle.outlet.specs.Beside.{nothing};
+ghost use Rattle.outlet.specs.Backing.{nothing};
 ghost use Rattle.outlet.specs.Places.{in_ring, room_in};
 
 use crate::ring::Ring;
 use crate::waiting::Outlet;
-use answers::refusal::{NoRoom, NothingWaits};
 use formats::entry::SentEntry;
+use formats::refusal::{NoRoom, NothingWaits};
 
 // How many entries the store has room for.
 pub const PLACES: usize = 64;
@@ -38,7 +38,7 @@ impl Outlet for StoreOutlet {
 
     ghost room = { λ o. room_in o.ring };
 
-    ghost beside = { λ _. nothing };
+    ghost backing = { λ _. nothing };
 
     fn send(&mut self, entry: SentEntry) -> Result<(), NoRoom> {
         let place = self.ring.claim().ok_or(NoRoom)?;

@@ -4,13 +4,13 @@ use Rattle.std.proofs.Common.{◌≡◌, ℕ, suc, ◌+◌, ◌-◌, ◌/◌, �
 use Rattle.std.specs.Option.{unwrap_or}
 use Rattle.std.proofs.lemmas.List.{get_or_default, get_or_past, drop-set-lt}
 use Rattle.std.proofs.lemmas.Bool.Decides.{nat_tests}
-use Rattle.answers.specs.declared.refusal.InstructionFault.{InstructionFault}
-use Rattle.answers.specs.declared.refusal.ListRefusal.{ListRefusal}
-use Rattle.answers.specs.Refusals.{ProgramRefusal}
+use Rattle.formats.specs.declared.refusal.InstructionFault.{InstructionFault}
+use Rattle.formats.specs.declared.refusal.ListRefusal.{ListRefusal}
+use Rattle.formats.specs.Refusals.{ProgramRefusal}
 use Rattle.formats.specs.declared.instruction.Instruction.{Instruction}
 use Rattle.formats.specs.declared.instruction.Instruction.TheVariants.{Halt}
 use Rattle.formats.specs.Instructions.{bytes_instruction}
-use Rattle.packed.specs.List.{entry_at}
+use Rattle.formats.specs.PackedList.{entry_at}
 use Rattle.program.specs.Accepted.{target_inside, targets_inside, last_of, Accepted}
 use Rattle.program.specs.Programs.{instruction_in}
 use Rattle.program.specs.Reading.{good_count, in_program, instruction_at, read_from}

@@ -1,13 +1,13 @@
 -- What reading a program from bytes answers: the questions in their order, over any bytes.
 -- Assumes nothing.
 use Rattle.std.specs.Prelude.{ℕ, zero, suc, ◌-◌, ◌/◌, ◌%◌, Bool, cond, ◌&&◌, List, [], ◌∷◌, length, Ok, Err, Result, ◌==◌, nat_le}
-use Rattle.answers.specs.declared.refusal.InstructionFault.{InstructionFault}
-use Rattle.answers.specs.declared.refusal.ListRefusal.{ListRefusal}
-use Rattle.answers.specs.declared.refusal.ProgramFault.TheVariants.{ByteCount, TargetOutside, NoEnd}
-use Rattle.answers.specs.Refusals.{ProgramRefusal, program_refusal}
+use Rattle.formats.specs.declared.refusal.InstructionFault.{InstructionFault}
+use Rattle.formats.specs.declared.refusal.ListRefusal.{ListRefusal}
+use Rattle.formats.specs.declared.refusal.ProgramFault.TheVariants.{ByteCount, TargetOutside, NoEnd}
+use Rattle.formats.specs.Refusals.{ProgramRefusal, program_refusal}
 use Rattle.formats.specs.declared.instruction.Instruction.{Instruction}
 use Rattle.formats.specs.Instructions.{bytes_instruction}
-use Rattle.packed.specs.List.{entry_at}
+use Rattle.formats.specs.PackedList.{entry_at}
 use Rattle.program.specs.Accepted.{target_inside, ends, last_of}
 
 -- a byte count that is a multiple of 4 from 4 to 2,048

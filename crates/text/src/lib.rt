@@ -1,5 +1,12 @@
-// Writing the console's text: registers, instructions and entries, answers, states and the token.
+// Reading and writing the console's text: lines, tokens, numbers and bytes; digits, refusals, instructions, entries,
+// answers and states.
 #![tactic(auto)]
 
+pub mod bytes;
+pub mod hexadecimal;
+pub mod line;
 pub mod machine;
+pub mod number;
+pub mod refused;
 pub mod show;
+mod stretch;

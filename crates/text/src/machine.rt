@@ -3,7 +3,7 @@ ghost use Rattle.std.specs.Prelude.{Some};
 ghost use Rattle.text.specs.Machines.{answer_text, state_text, token_text};
 
 use crate::show::Shown;
-use answers::answer::Answer;
+use formats::answer::Answer;
 use model::state::{State, Token};
 use std::fmt;
 

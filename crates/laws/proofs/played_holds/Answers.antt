@@ -1,4 +1,4 @@
--- `laws::played_holds` promises a theorem, and this is its proof.
+-- `crate::played_holds` promises a theorem, and this is its proof.
 -- Assumes nothing.
 use Rattle.laws.proofs.Laws.{is_played}
 use Rattle.laws.proofs.played_holds.Goals as goal

@@ -1,4 +1,4 @@
--- `laws::tags_can_be_served` promises a theorem, and this is its proof.
+-- `crate::tags_can_be_served` promises a theorem, and this is its proof.
 -- Assumes nothing.
 use Rattle.laws.proofs.Laws.{tags_served}
 use Rattle.laws.proofs.tags_can_be_served.Goals as goal

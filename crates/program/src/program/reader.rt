@@ -4,9 +4,9 @@ ghost use Rattle.program.specs.Accepted.{target_inside, ends};
 ghost use Rattle.program.specs.Reading.{good_count, instruction_at, read_program};
 
 use super::Program;
-use answers::refusal::{InstructionFault, ProgramFault, ProgramRefusal};
 use formats::instruction::Instruction;
-use packed::list::{count, get};
+use formats::packed_list::{count, get};
+use formats::refusal::{InstructionFault, ProgramFault, ProgramRefusal};
 
 // Whether the bytes can be a program: a multiple of 4 from 4 to 2,048.
 fn good_count(bytes: usize) -> bool

@@ -1,6 +1,6 @@
 use Rattle.std.proofs.Common.{◌≡◌, ◌+◌, ◌*◌, ◌-◌, arith}
 use Rattle.formats.specs.Sents.{sent_bytes}
-use Rattle.packed.proofs.Entries.{written}
+use Rattle.formats.proofs.Entries.{written}
 use Rattle.outlet.proofs.slot.put.Goals as goal
 
 pub returns : goal.returns

@@ -1,8 +1,8 @@
 use Rattle.std.proofs.Common.{◌≡◌, None, Option, unwrap_or, sym, refl, ap, ◌∙◌, subst}
 use Rattle.program.specs.declared.program.Program.{Program}
-use Rattle.buffers.specs.declared.buffers.MemoryBuffer.{MemoryBuffer}
-use Rattle.buffers.specs.declared.buffers.OutletBuffer.{OutletBuffer}
-use Rattle.buffers.specs.declared.buffers.OutletBuffer.TheVariants.{Store}
+use Rattle.console.specs.declared.buffers.MemoryBuffer.{MemoryBuffer}
+use Rattle.console.specs.declared.buffers.OutletBuffer.{OutletBuffer}
+use Rattle.console.specs.declared.buffers.OutletBuffer.TheVariants.{Store}
 use Rattle.console.specs.declared.console.Console.{Console}
 use Rattle.console.specs.declared.console.Next.{Next}
 use Rattle.console.specs.declared.console.Next.TheVariants.{Make}

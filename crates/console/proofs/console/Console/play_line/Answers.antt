@@ -1,12 +1,12 @@
 use Rattle.std.proofs.Common.{ℕ, List, IfOk, Err, vec_items, Option, Result, refl, subst, inr}
 use Rattle.std.specs.Option.{option_map}
 use Rattle.std.proofs.lemmas.Result.{IfOk-weaker}
-use Rattle.commands.specs.declared.command.Command.{Command}
-use Rattle.commands.specs.declared.reason.ParseError.{ParseError}
-use Rattle.commands.specs.declared.reason.ParseError.TheVariants.{NotUnderstood, NoMemory}
-use Rattle.commands.specs.Parsing.{command_of}
-use Rattle.commands.specs.Reasons.{Reads}
-use Rattle.commands.specs.Said.{said}
+use Rattle.console.specs.declared.command.Command.{Command}
+use Rattle.console.specs.declared.reason.ParseError.{ParseError}
+use Rattle.console.specs.declared.reason.ParseError.TheVariants.{NotUnderstood, NoMemory}
+use Rattle.console.specs.Parsing.{command_of}
+use Rattle.console.specs.Reasons.{Reads}
+use Rattle.console.specs.Said.{said}
 use Rattle.console.specs.declared.console.Console.{Console}
 use Rattle.console.specs.declared.console.Next.{Next}
 use Rattle.console.specs.Printed.{reason_line}
@@ -15,18 +15,18 @@ use Rattle.console.proofs.console.Console.play_line.Goals as goal
 
 -- a line that gives no command is explained, and leaves everything as it was
 explained_played : {E : Type 0} (s : Console) (text before after : List ℕ) (error : ParseError) (r : Result Next E) → Reads {A = Option Command} (option_map said) (Err error) (command_of text) → IfOk r (λ next. Explained error before after next) → IfOk r (λ next. Appends before after (λ printed. Played s text printed next s))
-explained_played s text before after (NotUnderstood reason) r why told =
+explained_played s text before after (NotUnderstood reason) r why reply =
     IfOk-weaker r
     (λ next. Explained (NotUnderstood reason) before after next)
     (λ next. Appends before after (λ printed. Played s text printed next s))
     (λ next e. (reason_line reason, e.0, inr (reason, why, refl, e.1, refl)))
-    told
-explained_played s text before after NoMemory r why told =
+    reply
+explained_played s text before after NoMemory r why reply =
     IfOk-weaker r
     (λ next. Explained NoMemory before after next)
     (λ next. Appends before after (λ printed. Played s text printed next s))
     (λ next none. absurd none)
-    told
+    reply
 
 pub returns-in-Err : goal.returns-in-Err
 returns-in-Err c =

@@ -13,8 +13,14 @@ returns-clause-value c =
     let ls = c.args.self.now in
     let all = map (λ (l : Line). l.address) (filter (λ (l : Line). l.tag) ls) in
     let few : length all ≤ 32 =
-        omega (arith, length-map (filter (λ (l : Line). l.tag) ls) (λ (l : Line). l.address), length-filter (λ (l : Line). l.tag) ls,
-        count_by-le-length (λ (l : Line). l.tag) ls, c.lines.ensures.few, ap length c.lines.ensures.value) in
+    omega (
+      arith,
+      length-map (filter (λ (l : Line). l.tag) ls) (λ (l : Line). l.address),
+      length-filter (λ (l : Line). l.tag) ls,
+      count_by-le-length (λ (l : Line). l.tag) ls,
+      c.lines.ensures.few,
+      ap length c.lines.ensures.value,
+    ) in
     let given = YieldsList-from_map _ (λ (l : Line). l.address)
-        (YieldsList-from_filter _ (λ (l : Line). l.tag) (YieldsList-from_slice ls cc) (cc) (λ x b q k. search rules)) (cc) (λ x r q k. search rules) in
+    (YieldsList-from_filter _ (λ (l : Line). l.tag) (YieldsList-from_slice ls cc) (cc) (λ x b q k. search rules)) (cc) (λ x r q k. search rules) in
     all_added all c.extend.result c.new-addresses.ensures c.extend.ensures.ran c.extend.ensures.full c.extend.ensures.one_more given few

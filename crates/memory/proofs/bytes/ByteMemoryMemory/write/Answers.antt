@@ -2,7 +2,7 @@ use Rattle.std.proofs.Common.{◌≡◌, ◌+◌, ◌-◌, ◌*◌, length, set,
 use lib.Seq.{take-set-lt}
 use borrow.Rule.Slice.PartMut.{put_mid}
 use Rattle.std.proofs.lemmas.Bool.{lt-ltb, le-ltb}
-use Rattle.memory.specs.Beside.{over}
+use Rattle.memory.specs.Backing.{over}
 use Rattle.memory.specs.Bytes.{memory_in, words_in, bytes_of, pasted}
 use Rattle.memory.proofs.Fronts.{read_inside, read_outside, refused}
 use Rattle.memory.proofs.Quads.{quad_inside, words_pasted, pasted_part, past_paste}

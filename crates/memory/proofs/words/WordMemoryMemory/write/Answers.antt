@@ -1,7 +1,7 @@
 use Rattle.std.proofs.Common.{◌<◌, length, refl, sym, ap, ◌∙◌, arith, length-take, drop-set-lt}
 use lib.Seq.{take-set-lt}
 use Rattle.std.proofs.lemmas.Bool.{lt-ltb, le-ltb}
-use Rattle.memory.specs.Beside.{over}
+use Rattle.memory.specs.Backing.{over}
 use Rattle.memory.specs.Words.{memory_of}
 use Rattle.memory.proofs.Fronts.{read_inside, read_outside, refused}
 use Rattle.memory.proofs.words.WordMemoryMemory.write.Goals as goal

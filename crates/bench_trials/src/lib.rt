@@ -1,5 +1,0 @@
-#![tactic(auto)]
-
-// Runs over byte slices.
-#[cfg(test)]
-mod trials;

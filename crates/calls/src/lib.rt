@@ -1,0 +1,10 @@
+// Calls, replies and settings as bytes, and a packed list of calls played on a new engine over byte slices, for callers
+// in Rust and C.
+#![tactic(auto)]
+
+pub mod call;
+pub mod export;
+mod kind;
+pub mod play;
+mod reply;
+mod settings;

@@ -1,4 +1,0 @@
-pub mod Counted
-pub mod Left
-pub mod Names
-pub mod Spread

@@ -1,4 +1,0 @@
-pub mod Parsing
-pub mod Reasons
-pub mod Said
-pub mod Words

@@ -1,0 +1,14 @@
+use Rattle.std.proofs.Common.{◌++◌, codes, ap}
+use Rattle.std.proofs.Output.{has_written_of_eq}
+use Rattle.formats.specs.Instructions.{instruction_bytes, instruction_word}
+use Rattle.formats.specs.ByteLemmas.{bytes_sized}
+use Rattle.text.specs.Digits.{hex_text}
+use Rattle.text.specs.Texts.{instruction_text}
+use Rattle.console.proofs.Packing.{packs}
+use Rattle.console.proofs.packed_form.PackedInstructionDisplay.fmt.Goals as goal
+
+pub returns-clause-writes : goal.returns-clause-writes
+returns-clause-writes g c =
+    let i = c.args.self.now.0 in
+    let same = packs 4 c.pack.result (instruction_bytes i) c.pack.ensures (bytes_sized 4 (instruction_word i)) in
+    λ plain ok. has_written_of_eq _ _ _ _ _ (ap (λ l. instruction_text i ++ (codes " = 0x" ++ hex_text l)) same) (c.write.ensures.writes plain ok)

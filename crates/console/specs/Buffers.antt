@@ -1,0 +1,38 @@
+-- Buffers for a memory and an outlet, with lists in the place of what is held in memory; and how large the two are over them.
+-- Assumes nothing.
+use Rattle.std.specs.Prelude.{ℕ, ◌/◌, List, length, vec_items}
+use Rattle.memory.specs.Bytes.{memory_in}
+use Rattle.memory.specs.Words.{memory_of}
+use Rattle.console.specs.declared.buffers.MemoryBuffer.{MemoryBuffer}
+use Rattle.console.specs.declared.buffers.MemoryBuffer.TheVariants.{Words, Bytes}
+use Rattle.console.specs.declared.buffers.OutletBuffer.{OutletBuffer}
+use Rattle.console.specs.declared.buffers.OutletBuffer.TheVariants.{Store, Bytes as OutletBytes}
+
+-- a buffer for a memory: words, or bytes
+pub data MemorySaid : Type 0 where
+  words : List ℕ → MemorySaid
+  bytes : List ℕ → MemorySaid
+
+-- a buffer for an outlet: the store, or bytes
+pub data OutletSaid : Type 0 where
+  store : OutletSaid
+  over : List ℕ → OutletSaid
+
+-- what each says
+abbrev pub memory_said : MemoryBuffer → MemorySaid
+memory_said (Words v) = words (vec_items v)
+memory_said (Bytes v) = bytes (vec_items v)
+
+abbrev pub outlet_said : OutletBuffer → OutletSaid
+outlet_said Store = store
+outlet_said (OutletBytes v) = over (vec_items v)
+
+-- the number of words that a memory has over its buffer
+abbrev pub words_in : MemorySaid → ℕ
+words_in (words ws) = length (memory_of ws)
+words_in (bytes bs) = length (memory_in bs)
+
+-- the number of entries that a new outlet has room for
+abbrev pub room_in : OutletSaid → ℕ
+room_in store = 64
+room_in (over bs) = length bs / 5

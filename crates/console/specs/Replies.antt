@@ -1,0 +1,95 @@
+-- What a command to an engine does to it, and the text of its answer.
+--   engine_after  the engine after a command
+--   CommandReply  the text; only the order of tags is left free
+-- Assumes nothing.
+use Rattle.std.specs.Prelude.{◌≡◌, ℕ, ◌+◌, ◌*◌, List, ◌++◌, take, replicate, Ok, Err, codes, decimal, Result}
+use Rattle.formats.specs.declared.refusal.NothingWaits.{NothingWaits}
+use Rattle.formats.specs.Refusals.{nothing_waits_number}
+use Rattle.formats.specs.declared.entry.SentEntry.{SentEntry}
+use Rattle.formats.specs.Bytes.{bytes_of}
+use Rattle.formats.specs.Records.{mark_number}
+use Rattle.model.specs.declared.refusal.ReadRefusal.{ReadRefusal}
+use Rattle.model.specs.declared.refusal.RecordRefusal.{RecordRefusal}
+use Rattle.model.specs.declared.refusal.TagsRefusal.{TagsRefusal}
+use Rattle.model.specs.declared.call.Reply.{Reply}
+use Rattle.model.specs.declared.call.Reply.TheVariants.{Stepped, Cleared, Held, Word, GivenBack, Taken}
+use Rattle.model.specs.Refusals.{hold_number, give_back_number, read_number, clear_number, record_number, tags_number}
+use Rattle.model.specs.OneAtATime.{Turn}
+use Rattle.model.specs.Engine.{Engine}
+use Rattle.model.specs.Calls.{entry, Tags, status, holder}
+use Rattle.model.specs.Runs.{reply, played}
+use Rattle.text.specs.Machines.{token_text}
+use Rattle.text.specs.Digits.{hex_text, refused_text}
+use Rattle.text.specs.Texts.{sent_text}
+use Rattle.console.specs.declared.machine.EngineCommand.{EngineCommand}
+use Rattle.console.specs.declared.machine.EngineCommand.TheVariants.{Call, Moves, Record, Tags as TagsOf, Core, Token}
+use Rattle.console.specs.ReplyTexts.{moved_reply, status_reply, spaced_text}
+use Rattle.console.specs.Repeated.{repeated, repeated_reply}
+
+-- a call that answers nothing but that it was done, by the number of its refusal and the word for done
+abbrev pub done_reply : {R : Type 0} → (R → ℕ) → List ℕ → Result (Unit {0}) R → List ℕ
+done_reply number done (Ok x) = done
+done_reply number done (Err r) = refused_text (number r)
+
+-- a word that was read
+abbrev pub word_reply : Result ℕ ReadRefusal → List ℕ
+word_reply (Ok w) = codes "word " ++ decimal w
+word_reply (Err r) = refused_text (read_number r)
+
+-- an entry that was taken
+abbrev pub taken_reply : Result SentEntry NothingWaits → List ℕ
+taken_reply (Ok x) = sent_text x
+taken_reply (Err r) = refused_text (nothing_waits_number r)
+
+-- a turn as the word of its record entry: core 3 bits, mark 2, zero 11, count 16
+abbrev pub turn_word : Turn → ℕ
+turn_word t = t.core * 536870912 + mark_number t.mark * 134217728 + t.count
+
+-- a turn: its core, mark and count, and its packed form
+abbrev pub turn_text : Turn → List ℕ
+turn_text t =
+    (codes "core " ++ (decimal t.core ++ (codes " mark " ++ (decimal (mark_number t.mark) ++ (codes " count " ++ decimal t.count))))) ++ (codes " = 0x" ++ hex_text (bytes_of 4 (turn_word t)))
+
+-- an entry of the record
+abbrev pub turn_reply : Result Turn RecordRefusal → List ℕ
+turn_reply (Ok t) = turn_text t
+turn_reply (Err r) = refused_text (record_number r)
+
+-- what a call answered
+abbrev pub reply_text : Reply → List ℕ
+reply_text (Stepped r) = moved_reply r
+reply_text (Cleared r) = done_reply clear_number (codes "cleared") r
+reply_text (Held r) = done_reply hold_number (codes "held") r
+reply_text (Word r) = word_reply r
+reply_text (GivenBack r) = done_reply give_back_number (codes "given back") r
+reply_text (Taken r) = taken_reply r
+
+-- the tags in the first places of a list
+abbrev pub tags_text : Result ℕ TagsRefusal → List ℕ → List ℕ
+tags_text (Ok n) list = decimal n ++ (codes ":" ++ spaced_text (take n list))
+tags_text (Err r) list = refused_text (tags_number r)
+
+-- the tags of a core, copied to a list of so many zeros: the list afterwards and the answer are such as the call allows
+pub record TagsReply (e : Engine) (core places : ℕ) (text : List ℕ) : Type 0 where
+  pub list : List ℕ
+  pub answer : Result ℕ TagsRefusal
+  pub copied : Tags e core (replicate places 0) list answer
+  pub written : text ≡ tags_text answer list
+
+-- the text of a command's answer
+abbrev pub CommandReply : Engine → EngineCommand → List ℕ → Type 0
+CommandReply e (Call c) text = text ≡ reply_text (reply e c)
+CommandReply e (Moves m times) text = text ≡ repeated_reply (repeated e m times).answer
+CommandReply e (Record place) text = text ≡ turn_reply (entry e place)
+CommandReply e (TagsOf core places) text = TagsReply e core places text
+CommandReply e (Core core) text = text ≡ status_reply (status e core)
+CommandReply e Token text = text ≡ token_text (holder e)
+
+-- the engine after a command
+abbrev pub engine_after : Engine → EngineCommand → Engine
+engine_after e (Call c) = played e c
+engine_after e (Moves m times) = (repeated e m times).engine
+engine_after e (Record place) = e
+engine_after e (TagsOf core places) = e
+engine_after e (Core core) = e
+engine_after e Token = e

@@ -1,0 +1,90 @@
+// A line as a command.
+ghost use Rattle.std.specs.Prelude.{◌≡◌, IfOk};
+ghost use Rattle.std.specs.Option.{option_map};
+ghost use Rattle.console.specs.Parsing.{settings_of, named_of, command_of};
+ghost use Rattle.console.specs.Reasons.{Reads};
+ghost use Rattle.console.specs.Said.{settings_said, said};
+
+use crate::buffers::{MemoryBuffer, OutletBuffer};
+use crate::kind::Kind;
+use crate::machine::EngineCommand;
+use crate::packed_command::PackedCommand;
+use crate::reason::{ParseError, Reason};
+use crate::setting::{memory_buffer, outlet_buffer};
+use crate::words::{Words, as_name};
+use std::alloc::{AllocError, Global};
+
+#[derive(Drop)]
+pub enum Command {
+    Packed(PackedCommand),
+    // the memory that the next make hands in
+    Memory(MemoryBuffer),
+    // the outlet that the next make hands in
+    Outlet(OutletBuffer),
+    // makes an engine
+    Make(Settings),
+    Engine(EngineCommand),
+}
+
+// How many lines a core has, and where each core starts.
+#[derive(Drop)]
+pub struct Settings {
+    pub lines: usize,
+    pub places: Vec<usize>,
+}
+
+// Numbers as places.
+fn widened(heap: Global, numbers: &[u32]) -> Result<Vec<usize>, AllocError>
+    ensures { IfOk result (λ v. v.items ≡ numbers.now) }
+{
+    numbers.iter().map(|n| *n as usize).collect(heap)
+}
+
+impl Settings {
+    // The settings that the words after `make` say.
+    fn parse(heap: Global, mut words: Words) -> Result<Settings, ParseError>
+        ensures { Reads settings_said result (settings_of words.entry) }
+    {
+        let lines = words.place()?;
+        let numbers = words.numbers(heap)?;
+        let places = widened(heap, numbers.as_slice())?;
+        Ok(Settings { lines, places })
+    }
+}
+
+impl Command {
+    // The command of a name and the words after it.
+    fn named(heap: Global, name: &str, words: Words) -> Result<Command, ParseError>
+        ensures { Reads said result (named_of name.now words.entry) }
+    {
+        match name {
+            "memory" => Ok(Command::Memory(memory_buffer(heap, words)?)),
+            "outlet" => Ok(Command::Outlet(outlet_buffer(heap, words)?)),
+            "make" => Ok(Command::Make(Settings::parse(heap, words)?)),
+            "program" => Ok(Command::Packed(PackedCommand::program(heap, words)?)),
+            "program-bytes" => Ok(Command::Packed(PackedCommand::program_bytes(heap, words)?)),
+            "list" => Ok(Command::Packed(words.end(PackedCommand::List)?)),
+            "image" => Ok(Command::Packed(PackedCommand::image(heap, words)?)),
+            "instruction" => Ok(Command::Packed(PackedCommand::one(
+                heap,
+                Kind::Instruction,
+                words,
+            )?)),
+            "entry" => Ok(Command::Packed(PackedCommand::one(heap, Kind::Entry, words)?)),
+            "sent" => Ok(Command::Packed(PackedCommand::one(heap, Kind::Sent, words)?)),
+            _ => Ok(Command::Engine(EngineCommand::parse(name, words)?)),
+        }
+    }
+
+    // The command that a text says. None where the text is blank.
+    pub fn parse(heap: Global, text: &[u8]) -> Result<Option<Command>, ParseError>
+        ensures { Reads (option_map said) result (command_of text.now) }
+    {
+        let mut words = Words::new(text);
+        let Some(word) = words.next() else {
+            return Ok(None);
+        };
+        let name = as_name(word).ok_or(Reason::UnknownCommand)?;
+        Ok(Some(Command::named(heap, name, words)?))
+    }
+}

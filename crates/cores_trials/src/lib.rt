@@ -1,5 +1,0 @@
-#![tactic(auto)]
-
-// Trials of a single core, step by step.
-#[cfg(test)]
-mod trials;

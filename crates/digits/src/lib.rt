@@ -1,5 +1,0 @@
-// Hexadecimal digits, and refusals by their number.
-#![tactic(auto)]
-
-pub mod hex;
-pub mod refused;

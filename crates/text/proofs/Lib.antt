@@ -1,0 +1,4 @@
+pub mod Digits
+pub mod Pairs
+pub mod Tokens
+pub mod Hexes

@@ -1,0 +1,28 @@
+// Bytes: two hexadecimal digits each with nothing between, or `-` for none.
+ghost use Rattle.std.specs.Prelude.{◌≡◌, IfOk, vec_items};
+ghost use Rattle.std.specs.Option.{option_map};
+ghost use Rattle.text.specs.Numbers.{read_pairs, read_bytes};
+
+use hex::FromHexError;
+use std::alloc::{AllocError, Global};
+
+// The bytes that pairs of hexadecimal digits write.
+fn read_pairs(heap: Global, token: &[u8]) -> Result<Option<Vec<u8>>, AllocError>
+    ensures { IfOk result (λ o. option_map vec_items o ≡ read_pairs token.now) }
+{
+    match hex::decode(heap, token) {
+        Ok(bytes) => Ok(Some(bytes)),
+        Err(error) if error == FromHexError::OutOfMemory => Err(AllocError),
+        Err(_) => Ok(None),
+    }
+}
+
+// The bytes that a token writes. None where it is neither pairs of hexadecimal digits nor `-`.
+pub fn read_bytes(heap: Global, token: &[u8]) -> Result<Option<Vec<u8>>, AllocError>
+    ensures { IfOk result (λ o. option_map vec_items o ≡ read_bytes token.now) }
+{
+    match token {
+        b"-" => Ok(Some(Vec::new(heap))),
+        _ => read_pairs(heap, token),
+    }
+}

@@ -1,3 +1,0 @@
-pub mod Digits
-pub mod Pairs
-pub mod Tokens

@@ -1,4 +1,0 @@
-pub mod Calls
-pub mod Kinds
-pub mod Replies
-pub mod Settings

@@ -1,8 +1,0 @@
--- `worked::limits_hold`: the limits hold by computation.
--- Assumes nothing.
-use Rattle.model.specs.Instructions.{action_at, decision_at}
-use Rattle.worked.proofs.limits_hold.Goals as goal
-
-pub returns : goal.returns
-unfolding action_at decision_at
-returns c = assumption
