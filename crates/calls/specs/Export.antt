@@ -8,7 +8,7 @@ use Rattle.std.specs.Option.{unwrap_or}
 use Rattle.formats.specs.Refusals.{ProgramRefusal, program_refusal_number}
 use Rattle.formats.specs.declared.instruction.Instruction.{Instruction}
 use Rattle.memory.specs.Bytes.{memory_in}
-use Rattle.program.specs.Reading.{read_program}
+use Rattle.codecs.specs.Reading.{read_program}
 use Rattle.model.specs.declared.refusal.CheckRefusal.{CheckRefusal}
 use Rattle.model.specs.Refusals.{check_number}
 use Rattle.model.specs.Engine.{Engine, Outlet, Settings, check, make}

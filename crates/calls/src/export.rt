@@ -10,7 +10,7 @@ use memory::bytes::ByteMemory;
 use memory::shared::Memory;
 use model::refusal::CheckRefusal;
 use outlet::bytes::ByteOutlet;
-use program::program::Program;
+use codecs::program::Program;
 
 // A program or settings that are not accepted.
 #[derive(Clone, Copy, PartialEq, Eq, Debug)]

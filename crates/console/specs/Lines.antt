@@ -4,7 +4,7 @@ use Rattle.std.specs.Prelude.{ℕ, ◌/◌, ◌%◌, List, [], ◌∷◌, ◌++�
 use Rattle.std.specs.List.{range_with_len, flat_map}
 use Rattle.formats.specs.declared.instruction.Instruction.{Instruction}
 use Rattle.formats.specs.declared.instruction.Instruction.TheVariants.{Halt}
-use Rattle.program.specs.Reading.{read_program}
+use Rattle.codecs.specs.Reading.{read_program}
 use Rattle.text.specs.Texts.{instruction_text}
 use Rattle.console.specs.declared.kind.Kind.{Kind}
 use Rattle.console.specs.declared.packed_command.PackedCommand.{PackedCommand}

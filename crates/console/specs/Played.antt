@@ -2,7 +2,7 @@
 -- Assumes nothing.
 use Rattle.std.specs.Prelude.{◌≡◌, ℕ, ◌⊎◌, List, [], ◌++◌, replicate, Some, None, Ok, Err, codes, decimal, Option}
 use Rattle.std.specs.Option.{option_map, unwrap_or}
-use Rattle.program.specs.declared.program.Program.{Program}
+use Rattle.codecs.specs.declared.program.Program.{Program}
 use Rattle.console.specs.declared.buffers.MemoryBuffer.{MemoryBuffer}
 use Rattle.console.specs.declared.buffers.OutletBuffer.TheVariants.{Store}
 use Rattle.console.specs.declared.command.Command.{Command}

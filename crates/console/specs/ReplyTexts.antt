@@ -16,7 +16,7 @@ use Rattle.formats.specs.declared.entry.SentEntry.{SentEntry}
 use Rattle.formats.specs.Instructions.{instruction_bytes, bytes_instruction}
 use Rattle.formats.specs.Records.{record_bytes, bytes_record}
 use Rattle.formats.specs.Sents.{sent_bytes, bytes_sent}
-use Rattle.formats.specs.PackedList.{entry_at}
+use Rattle.codecs.specs.PackedList.{entry_at}
 use Rattle.model.specs.declared.refusal.StepRefusal.{StepRefusal}
 use Rattle.model.specs.declared.refusal.CheckRefusal.{CheckRefusal}
 use Rattle.model.specs.declared.state.Status.{Status}

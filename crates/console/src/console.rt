@@ -9,7 +9,7 @@ use crate::line::write_line;
 use crate::machine::EngineCommand;
 use crate::packed_answers;
 use crate::reason::{ParseError, Reason};
-use program::program::Program;
+use codecs::program::Program;
 use std::alloc::{AllocError, Global};
 use text::line::{next_token, without_remark};
 

@@ -6,8 +6,8 @@ use crate::kind::Kind;
 use crate::reply_texts::{instruction_reply, record_reply, sent_reply};
 use formats::entry::{RecordEntry, SentEntry};
 use formats::instruction::Instruction;
-use formats::packed_entry::PackedEntry;
-use formats::packed_list;
+use codecs::packed_entry::PackedEntry;
+use codecs::packed_list;
 use std::alloc::{AllocError, Global};
 
 // Bytes as a packed list of entries of a kind.

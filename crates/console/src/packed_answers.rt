@@ -1,6 +1,6 @@
 // What is answered to the commands on programs and packed words.
 ghost use Rattle.std.specs.Prelude.{◌≡◌, ◌++◌, IfOk, string_bytes, OnOk};
-ghost use Rattle.program.specs.Reading.{read_program};
+ghost use Rattle.codecs.specs.Reading.{read_program};
 ghost use Rattle.console.specs.Lines.{instruction_line, listed, entry_line, image_lines, packed_lines, program_after};
 ghost use Rattle.console.specs.ReplyTexts.{count_read, after_reading, program_reply};
 
@@ -9,7 +9,7 @@ use crate::line::write_line;
 use crate::packed_command::PackedCommand;
 use formats::instruction::Instruction;
 use formats::refusal::ProgramRefusal;
-use program::program::Program;
+use codecs::program::Program;
 use std::alloc::{AllocError, Global};
 use text::refused::RefusedAt;
 use text::show::Shown;

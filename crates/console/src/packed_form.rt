@@ -4,7 +4,7 @@ ghost use Rattle.console.specs.ReplyTexts.{instruction_reply, entry_reply, sent_
 
 use formats::entry::{RecordEntry, SentEntry};
 use formats::instruction::Instruction;
-use formats::packed_entry::PackedEntry;
+use codecs::packed_entry::PackedEntry;
 use std::fmt;
 use text::hexadecimal::Hex;
 use text::show::Shown;

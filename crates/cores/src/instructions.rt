@@ -1,7 +1,7 @@
 // What an instruction asks for at a context, and the ways in which a context changes.
 ghost use Rattle.std.specs.Prelude.{◌≡◌, ◌+◌, ◌<◌, ◌≤◌, true, false, suc, if◌then◌else◌};
 ghost use Rattle.formats.specs.Sents.{sent_word};
-ghost use Rattle.program.specs.Accepted.{target_inside, ends};
+ghost use Rattle.codecs.specs.Accepted.{target_inside, ends};
 ghost use Rattle.model.specs.declared.action.Action.TheVariants.{Performs};
 ghost use Rattle.model.specs.declared.action.Operation.TheVariants.{Sets, Jumps};
 ghost use Rattle.model.specs.Instructions.{reg, past, with_reg, action, outside};

@@ -18,7 +18,7 @@ use model::action::Operation;
 use model::context::Context;
 use model::state::Token;
 use outlet::waiting::Outlet;
-use program::program::Program;
+use codecs::program::Program;
 use std::marker::Model;
 
 /// Program, lines of a core, memory, outlet, commit token and record. A step of a core changes it in place.

@@ -4,7 +4,7 @@ ghost use Rattle.model.specs.Engine.{all_below, check};
 
 use formats::bounds::{MOST_CORES, MOST_ENGINE_WORDS, MOST_LINES};
 use model::refusal::CheckRefusal;
-use program::program::Program;
+use codecs::program::Program;
 use std::marker::Model;
 
 /// A program, the places where its cores begin, and how many lines each core has.

@@ -10,7 +10,7 @@ use Rattle.formats.specs.Belows.{immediate_of, channel_of}
 use Rattle.formats.specs.Bytes.{bytes_of}
 use Rattle.formats.specs.Instructions.{instruction_word, word_instruction}
 use Rattle.formats.specs.Records.{record_word}
-use Rattle.program.specs.Reading.{read_program}
+use Rattle.codecs.specs.Reading.{read_program}
 use Rattle.examples.specs.Values.{entry_of}
 
 -- the number of a refusal, 0 where nothing is refused

@@ -1,2 +1,5 @@
-pub mod Codes
-pub mod Entries
+pub mod Bytes
+pub mod Belows
+pub mod Instructions
+pub mod Records
+pub mod Sents

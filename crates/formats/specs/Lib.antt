@@ -6,9 +6,3 @@ pub mod Registers
 pub mod Instructions
 pub mod Records
 pub mod Sents
-pub mod PackedList
-pub mod BelowLemmas
-pub mod ByteLemmas
-pub mod InstructionLemmas
-pub mod RecordLemmas
-pub mod SentLemmas

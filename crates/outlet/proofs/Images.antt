@@ -3,7 +3,7 @@ use Rattle.std.proofs.Common.{◌≡◌, ℕ, ◌+◌, ◌-◌, ◌/◌, ◌<◌
 use Rattle.std.proofs.lemmas.Bool.Decides.{nat_tests}
 use Rattle.formats.specs.declared.entry.SentEntry.{SentEntry}
 use Rattle.formats.specs.Sents.{sent_bytes}
-use Rattle.formats.specs.PackedList.{with_entry}
+use Rattle.codecs.specs.PackedList.{with_entry}
 use Rattle.outlet.specs.Bytes.{entry_in, entries_in}
 use Rattle.outlet.specs.Ring.{wrapped, ring_of}
 use Rattle.outlet.specs.Waiting.{sent}

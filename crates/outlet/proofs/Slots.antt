@@ -8,10 +8,10 @@ use Rattle.std.proofs.lemmas.Bool.{cases_lt}
 use Rattle.formats.specs.declared.entry.SentEntry.{SentEntry}
 use Rattle.formats.specs.Bytes.{spelled}
 use Rattle.formats.specs.Sents.{sent_code, sent_of, sent_bytes}
-use Rattle.formats.specs.ByteLemmas.{bytes_sized, number_again}
-use Rattle.formats.specs.SentLemmas.{code_fits, code_again}
-use Rattle.formats.specs.PackedList.{entry_bytes, with_entry}
-use Rattle.formats.proofs.Entries.{written}
+use Rattle.formats.proofs.Bytes.{bytes_sized, number_again}
+use Rattle.formats.proofs.Sents.{code_fits, code_again}
+use Rattle.codecs.specs.PackedList.{entry_bytes, with_entry}
+use Rattle.codecs.proofs.Entries.{written}
 use Rattle.outlet.specs.Bytes.{entry_in, entries_in}
 
 -- one entry for every five bytes

@@ -4,7 +4,7 @@ use Rattle.std.specs.List.{range_with_len}
 use Rattle.formats.specs.declared.entry.SentEntry.{SentEntry}
 use Rattle.formats.specs.Bytes.{spelled}
 use Rattle.formats.specs.Sents.{sent_of, sent_bytes}
-use Rattle.formats.specs.PackedList.{entry_count, entry_bytes, with_entry}
+use Rattle.codecs.specs.PackedList.{entry_count, entry_bytes, with_entry}
 
 -- the entry in a slot: what its five bytes unpack to
 abbrev pub entry_in : List ℕ → ℕ → SentEntry

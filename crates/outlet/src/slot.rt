@@ -2,7 +2,7 @@
 // A slot's place is found without a division.
 ghost use Rattle.std.specs.Prelude.{◌≡◌, ◌/◌, ◌<◌, length};
 ghost use Rattle.formats.specs.Sents.{sent_bytes};
-ghost use Rattle.formats.specs.PackedList.{with_entry};
+ghost use Rattle.codecs.specs.PackedList.{with_entry};
 ghost use Rattle.outlet.specs.Bytes.{entry_in};
 
 use formats::entry::SentEntry;

@@ -6,7 +6,7 @@ use formats::below::CoreNumber;
 use model::effect::Effect;
 use model::refusal::TagsRefusal;
 use model::state::{State, Token};
-use program::program::Program;
+use codecs::program::Program;
 use std::test::Fail;
 
 // BEGIN; LOAD d 1; STORE b 1; END; HALT

@@ -2,7 +2,7 @@
 use formats::below::{Below, Channel, CoreNumber, Immediate, UnitCount};
 use formats::entry::{Mark, RecordEntry, SentEntry};
 use formats::instruction::Instruction;
-use formats::packed_entry::PackedEntry;
+use codecs::packed_entry::PackedEntry;
 use formats::refusal::{EntryFault, InstructionFault};
 use formats::register::Register;
 use std::test::Fail;

@@ -2,7 +2,7 @@
 use console::kind::Kind;
 use console::packed_answers::answer;
 use console::packed_command::PackedCommand;
-use program::program::Program;
+use codecs::program::Program;
 use std::alloc::{AllocError, Global};
 use std::test::Fail;
 

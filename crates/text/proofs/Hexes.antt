@@ -7,7 +7,7 @@ use Rattle.std.proofs.lemmas.Bool.{cases_lt}
 use Rattle.std.proofs.lemmas.List.{take_all, take_more, flat_map_more, drop_all, drop-append-le}
 use Rattle.std.proofs.lemmas.Bool.Decides.{nat_tests}
 use Rattle.formats.specs.Bytes.{bytes_of}
-use Rattle.formats.specs.ByteLemmas.{bytes_sized, byte_at}
+use Rattle.formats.proofs.Bytes.{bytes_sized, byte_at}
 use Rattle.text.specs.Digits.{hex_byte, hex_text}
 
 -- a number's eight bytes

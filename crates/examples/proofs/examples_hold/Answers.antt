@@ -4,9 +4,9 @@ use Rattle.std.proofs.Common.{◌≡◌, [], ◌∷◌, Ok, refl, ap}
 use Rattle.formats.specs.declared.instruction.Instruction.TheVariants.{Jump}
 use Rattle.formats.specs.Belows.{immediate_of}
 use Rattle.formats.specs.Bytes.{bytes_of}
-use Rattle.formats.specs.BelowLemmas.{same_value}
+use Rattle.formats.proofs.Belows.{same_value}
 use Rattle.model.specs.Instructions.{action_at, decision_at}
-use Rattle.program.specs.Reading.{read_from, read_program}
+use Rattle.codecs.specs.Reading.{read_from, read_program}
 use Rattle.examples.proofs.examples_hold.Goals as goal
 
 pub returns : goal.returns

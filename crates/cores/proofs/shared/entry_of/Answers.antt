@@ -1,6 +1,6 @@
 use Rattle.std.proofs.Common.{◌≡◌, ap, sym, arith}
 use Rattle.formats.specs.Records.{entry}
-use Rattle.formats.specs.RecordLemmas.{entry_again}
+use Rattle.formats.proofs.Records.{entry_again}
 use Rattle.cores.proofs.shared.entry_of.Goals as goal
 
 pub returns : goal.returns

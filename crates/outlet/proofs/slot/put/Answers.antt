@@ -1,6 +1,6 @@
 use Rattle.std.proofs.Common.{◌≡◌, ◌+◌, ◌*◌, ◌-◌, arith}
 use Rattle.formats.specs.Sents.{sent_bytes}
-use Rattle.formats.proofs.Entries.{written}
+use Rattle.codecs.proofs.Entries.{written}
 use Rattle.outlet.proofs.slot.put.Goals as goal
 
 pub returns : goal.returns

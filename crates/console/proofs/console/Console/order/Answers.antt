@@ -1,5 +1,5 @@
 use Rattle.std.proofs.Common.{◌≡◌, None, Option, unwrap_or, sym, refl, ap, ◌∙◌, subst}
-use Rattle.program.specs.declared.program.Program.{Program}
+use Rattle.codecs.specs.declared.program.Program.{Program}
 use Rattle.console.specs.declared.buffers.MemoryBuffer.{MemoryBuffer}
 use Rattle.console.specs.declared.buffers.OutletBuffer.{OutletBuffer}
 use Rattle.console.specs.declared.buffers.OutletBuffer.TheVariants.{Store}

@@ -1,7 +1,7 @@
 use Rattle.std.proofs.Common.{◌++◌, codes, ap}
 use Rattle.std.proofs.Output.{has_written_of_eq}
 use Rattle.formats.specs.Instructions.{instruction_bytes, instruction_word}
-use Rattle.formats.specs.ByteLemmas.{bytes_sized}
+use Rattle.formats.proofs.Bytes.{bytes_sized}
 use Rattle.text.specs.Digits.{hex_text}
 use Rattle.text.specs.Texts.{instruction_text}
 use Rattle.console.proofs.Packing.{packs}

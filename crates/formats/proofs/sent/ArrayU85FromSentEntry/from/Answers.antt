@@ -1,5 +1,5 @@
 use Rattle.std.proofs.Common.{ℕ, List, [], ◌∷◌, get_or, ap, ◌∙◌}
-use Rattle.formats.specs.SentLemmas.{bytes_written}
+use Rattle.formats.proofs.Sents.{bytes_written}
 use Rattle.formats.proofs.sent.ArrayU85FromSentEntry.from.Goals as goal
 
 pub returns : goal.returns

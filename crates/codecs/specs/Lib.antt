@@ -1,0 +1,4 @@
+pub mod PackedList
+pub mod Accepted
+pub mod Programs
+pub mod Reading

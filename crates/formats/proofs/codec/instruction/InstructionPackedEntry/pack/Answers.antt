@@ -1,9 +1,0 @@
-use Rattle.std.proofs.Common.{sym, ap, ◌∙◌}
-use Rattle.formats.specs.Instructions.{joined, instruction_word}
-use Rattle.formats.specs.ByteLemmas.{number_again}
-use Rattle.formats.specs.InstructionLemmas.{word_fits}
-use Rattle.formats.proofs.codec.instruction.InstructionPackedEntry.pack.Goals as goal
-
-pub returns : goal.returns
-returns c =
-    c.from.ensures ∙ c.join.ensures ∙ ap joined c.encode.ensures ∙ sym (number_again 4 (instruction_word c.args.self) (word_fits c.args.self))

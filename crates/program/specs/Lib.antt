@@ -1,3 +1,0 @@
-pub mod Accepted
-pub mod Programs
-pub mod Reading
