@@ -10,6 +10,7 @@ ghost use Rattle.cores.specs.Steps.{affected, written};
 
 use crate::instructions::{pass, set};
 use crate::record::Record;
+use codecs::program::Program;
 use formats::below::{CoreNumber, UnitCount};
 use formats::bounds::MOST_ENTRIES;
 use formats::entry::{Mark, RecordEntry, SentEntry};
@@ -18,7 +19,6 @@ use model::action::Operation;
 use model::context::Context;
 use model::state::Token;
 use outlet::waiting::Outlet;
-use codecs::program::Program;
 use std::marker::Model;
 
 /// Program, lines of a core, memory, outlet, commit token and record. A step of a core changes it in place.

@@ -2,9 +2,9 @@
 ghost use Rattle.std.specs.Prelude.{◌≡◌, ◌≤◌, true, length, OnOk};
 ghost use Rattle.model.specs.Engine.{all_below, check};
 
+use codecs::program::Program;
 use formats::bounds::{MOST_CORES, MOST_ENGINE_WORDS, MOST_LINES};
 use model::refusal::CheckRefusal;
-use codecs::program::Program;
 use std::marker::Model;
 
 /// A program, the places where its cores begin, and how many lines each core has.

@@ -5,10 +5,10 @@ ghost use Rattle.formats.proofs.Bytes.{bytes_sized, again_from, back_from};
 ghost use Rattle.formats.proofs.Instructions.{word_fits, word_again, word_back};
 ghost use Rattle.std.proofs.Common.{rules};
 
-use formats::below::Immediate;
 use crate::codec::truncated::{register_of, truncated};
-use formats::instruction::{Fields, Instruction};
 use crate::packed_entry::PackedEntry;
+use formats::below::Immediate;
+use formats::instruction::{Fields, Instruction};
 use formats::refusal::InstructionFault;
 use formats::register::Register;
 

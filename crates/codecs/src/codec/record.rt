@@ -6,8 +6,8 @@ ghost use Rattle.formats.proofs.Records.{word_fits, word_again, word_back};
 ghost use Rattle.std.proofs.Common.{rules};
 
 use crate::codec::truncated::truncated;
-use formats::entry::{Mark, RecordEntry};
 use crate::packed_entry::PackedEntry;
+use formats::entry::{Mark, RecordEntry};
 use formats::refusal::EntryFault;
 
 // The entry's word: core 3 bits, mark 2, zero 11, count 16, most significant first.

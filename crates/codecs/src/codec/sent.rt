@@ -4,8 +4,8 @@ ghost use Rattle.formats.proofs.Bytes.{bytes_sized, again_from, back_from};
 ghost use Rattle.formats.proofs.Sents.{code_fits, code_again, code_back};
 ghost use Rattle.std.proofs.Common.{rules};
 
-use formats::entry::SentEntry;
 use crate::packed_entry::PackedEntry;
+use formats::entry::SentEntry;
 use std::convert::Infallible;
 
 impl PackedEntry for SentEntry {

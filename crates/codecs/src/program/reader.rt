@@ -4,8 +4,8 @@ ghost use Rattle.codecs.specs.Accepted.{target_inside, ends};
 ghost use Rattle.codecs.specs.Reading.{good_count, instruction_at, read_program};
 
 use super::Program;
+use crate::packed_list::{count, get};
 use formats::instruction::Instruction;
-use codecs::packed_list::{count, get};
 use formats::refusal::{InstructionFault, ProgramFault, ProgramRefusal};
 
 // Whether the bytes can be a program: a multiple of 4 from 4 to 2,048.
