@@ -1,4 +1,5 @@
 // An accepted program.
+use formats::bounds::MOST_INSTRUCTIONS;
 use formats::instruction::Instruction;
 use std::marker::Model;
 
@@ -9,7 +10,7 @@ mod reader;
 // An array with a count: nothing is allocated, and a program is copied into each engine.
 #[derive(Clone, Copy, PartialEq, Eq, Debug)]
 pub struct Program {
-    instructions: [Instruction; 512],
+    instructions: [Instruction; MOST_INSTRUCTIONS],
     count: usize,
 }
 

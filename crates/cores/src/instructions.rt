@@ -9,6 +9,7 @@ ghost use Rattle.model.specs.Cores.{accesses};
 ghost use Rattle.cores.specs.Onwards.{Onward};
 
 use formats::below::{Channel, Immediate};
+use formats::bounds::MOST_INSTRUCTIONS;
 use formats::entry::SentEntry;
 use formats::instruction::Instruction;
 use formats::register::Register;
@@ -75,7 +76,7 @@ fn sent(channel: Channel, word: u32) -> SentEntry
 
 // What an instruction of a program asks for at its context.
 pub(crate) fn action_of(instruction: Instruction, context: &Context) -> Action
-    requires targets { target_inside 512 instruction ≡ true }
+    requires targets { target_inside MOST_INSTRUCTIONS instruction ≡ true }
     requires onward { ends instruction ≡ false → context.now.pc < 511 }
     ensures value { result ≡ action instruction context.now }
     ensures onward { Onward context.now.pc result }

@@ -30,13 +30,5 @@ answer_number (Faulted f pc) = 10
 
 -- the values that an answer carries: of "faulted" the fault's number and the pc, of the others none
 abbrev pub answer_values : Answer → List ℕ
-answer_values Running = []
-answer_values Waiting = []
-answer_values Done = []
-answer_values Committing = []
-answer_values Early = []
-answer_values Full = []
-answer_values Stopped = []
-answer_values RolledBack = []
-answer_values Retried = []
 answer_values (Faulted f pc) = fault_number f ∷ pc ∷ []
+answer_values _ = []

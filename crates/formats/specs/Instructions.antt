@@ -1,6 +1,6 @@
 -- An instruction as one word: five fields, most significant first.
 -- Assumes nothing.
-use Rattle.std.specs.Prelude.{ℕ, ◌+◌, ◌*◌, ◌/◌, ◌%◌, Bool, true, false, cond, ◌&&◌, List, Ok, Err, Result, ◌==◌, nat_eq, nat_lt}
+use Rattle.std.specs.Prelude.{ℕ, ◌+◌, ◌*◌, ◌/◌, ◌%◌, ◌^◌, Bool, true, false, cond, ◌&&◌, List, Ok, Err, Result, ◌==◌, nat_eq, nat_lt}
 use Rattle.formats.specs.declared.refusal.InstructionFault.{InstructionFault}
 use Rattle.formats.specs.declared.refusal.InstructionFault.TheVariants.{UnknownOpcode, BadField}
 use Rattle.formats.specs.declared.below.Below.{Below}
@@ -16,15 +16,15 @@ use Rattle.formats.specs.Registers.{register_number, register_at}
 -- the fields as one word: opcode 5 bits, d 3, a 3, b 3, n 18, most significant first
 abbrev pub joined : Fields → ℕ
 joined f =
-    f.opcode * 134217728 + register_number f.d * 16777216 + register_number f.a * 2097152 + register_number f.b * 262144 + f.n.value
+    f.opcode * 2 ^ 27 + register_number f.d * 2 ^ 24 + register_number f.a * 2 ^ 21 + register_number f.b * 2 ^ 18 + f.n.value
 
 -- a word's fields
 abbrev pub split : ℕ → Fields
 split w = record {
-  opcode = w / 134217728;
-  d = register_at (w / 16777216 % 8);
-  a = register_at (w / 2097152 % 8);
-  b = register_at (w / 262144 % 8);
+  opcode = w / 2 ^ 27;
+  d = register_at (w / 2 ^ 24 % 8);
+  a = register_at (w / 2 ^ 21 % 8);
+  b = register_at (w / 2 ^ 18 % 8);
   n = immediate_of w;
 }
 

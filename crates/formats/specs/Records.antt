@@ -1,6 +1,6 @@
 -- A record entry as one word: core 3 bits, mark 2, zero 11, count 16.
 -- Assumes nothing.
-use Rattle.std.specs.Prelude.{ℕ, ◌+◌, ◌*◌, ◌/◌, ◌%◌, Bool, cond, ◌&&◌, List, Ok, Err, Result, ◌==◌, nat_le}
+use Rattle.std.specs.Prelude.{ℕ, ◌+◌, ◌*◌, ◌/◌, ◌%◌, ◌^◌, Bool, cond, ◌&&◌, List, Ok, Err, Result, ◌==◌, nat_le}
 use Rattle.formats.specs.declared.refusal.EntryFault.{EntryFault}
 use Rattle.formats.specs.declared.refusal.EntryFault.TheVariants.{OutOfRange}
 use Rattle.formats.specs.declared.entry.Mark.{Mark}
@@ -29,16 +29,16 @@ entry i mark n = record { core = core_of i; mark = mark; count = count_of n }
 
 -- an entry's word
 abbrev pub record_word : RecordEntry → ℕ
-record_word e = e.core.value * 536870912 + mark_number e.mark * 134217728 + e.count.value
+record_word e = e.core.value * 2 ^ 29 + mark_number e.mark * 2 ^ 27 + e.count.value
 
 -- mark 0 to 2, the 11 bits zero, count at most 4,096
 abbrev pub in_range : ℕ → Bool
-in_range w = nat_le (w / 134217728 % 4) 2 && w / 65536 % 2048 == 0 && nat_le (w % 65536) 4096
+in_range w = nat_le (w / 2 ^ 27 % 4) 2 && w / 2 ^ 16 % 2 ^ 11 == 0 && nat_le (w % 2 ^ 16) 4096
 
 -- what a word unpacks to
 abbrev pub word_record : ℕ → Result RecordEntry EntryFault
 word_record w =
-    cond (in_range w) (Ok (entry (w / 536870912) (mark_at (w / 134217728 % 4)) (w % 65536))) (Err OutOfRange)
+    cond (in_range w) (Ok (entry (w / 2 ^ 29) (mark_at (w / 2 ^ 27 % 4)) (w % 2 ^ 16))) (Err OutOfRange)
 
 -- the same over four bytes
 abbrev pub record_bytes : RecordEntry → List ℕ

@@ -1,6 +1,6 @@
 -- An outlet entry as five bytes: the channel, then the word.
 -- Assumes nothing.
-use Rattle.std.specs.Prelude.{ℕ, ◌+◌, ◌*◌, ◌/◌, ◌%◌, List, Ok, Result}
+use Rattle.std.specs.Prelude.{ℕ, ◌+◌, ◌*◌, ◌/◌, ◌%◌, ◌^◌, List, Ok, Result}
 use Rattle.std.proofs.Common.{lit<}
 use Rattle.std.specs.declared.convert.Infallible.{Infallible}
 use Rattle.std.proofs.lemmas.Nat.{mod_below}
@@ -11,15 +11,15 @@ use Rattle.formats.specs.Bytes.{bytes_of, spelled}
 
 -- a word sent on a channel
 abbrev pub sent_word : Below 256 → ℕ → SentEntry
-sent_word channel word = record { channel = channel; word = word % 4294967296; fits = mod_below word 4294967296 (lit< tt) }
+sent_word channel word = record { channel = channel; word = word % 2 ^ 32; fits = mod_below word (2 ^ 32) (lit< tt) }
 
 -- an entry as a number of 40 bits
 abbrev pub sent_code : SentEntry → ℕ
-sent_code e = e.channel.value * 4294967296 + e.word
+sent_code e = e.channel.value * 2 ^ 32 + e.word
 
 -- the entry of such a number
 abbrev pub sent_of : ℕ → SentEntry
-sent_of n = sent_word (channel_of (n / 4294967296)) n
+sent_of n = sent_word (channel_of (n / 2 ^ 32)) n
 
 -- every number unpacks
 abbrev pub code_sent : ℕ → Result SentEntry Infallible

@@ -5,6 +5,7 @@ ghost use Rattle.codecs.specs.Accepted.{Accepted, target_inside, ends};
 ghost use Rattle.codecs.specs.Programs.{instruction_in};
 
 use super::Program;
+use formats::bounds::MOST_INSTRUCTIONS;
 use formats::instruction::Instruction;
 
 impl Program {
@@ -19,7 +20,7 @@ impl Program {
     // How many instructions it has, 1 to 512.
     pub fn len(&self) -> usize
         ensures value { result ≡ length self.now }
-        ensures few { result ≤ 512 }
+        ensures few { result ≤ MOST_INSTRUCTIONS }
     {
         self.as_slice().len()
     }
@@ -35,7 +36,7 @@ impl Program {
     // instruction has a next place to go on at.
     pub fn at(&self, pc: usize) -> Instruction
         ensures value { result ≡ slice_index_or self.now pc Halt }
-        ensures targets { target_inside 512 result ≡ true }
+        ensures targets { target_inside MOST_INSTRUCTIONS result ≡ true }
         ensures onward { ends result ≡ false → pc < 511 }
     {
         self.as_slice()

@@ -5,6 +5,7 @@ ghost use Rattle.codecs.specs.Reading.{good_count, instruction_at, read_program}
 
 use super::Program;
 use crate::packed_list::{count, get};
+use formats::bounds::MOST_INSTRUCTIONS;
 use formats::instruction::Instruction;
 use formats::refusal::{InstructionFault, ProgramFault, ProgramRefusal};
 
@@ -61,7 +62,7 @@ impl Program {
             });
         }
         let count = count::<Instruction>(bytes);
-        let mut instructions = [Instruction::Halt; 512];
+        let mut instructions = [Instruction::Halt; MOST_INSTRUCTIONS];
         // By place, which is what the packed list is asked for.
         for place in 0..count {
             instructions[place] = instruction_at(count, bytes, place)?;
