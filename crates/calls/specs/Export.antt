@@ -11,7 +11,8 @@ use Rattle.memory.specs.Bytes.{memory_in}
 use Rattle.codecs.specs.Reading.{read_program}
 use Rattle.model.specs.declared.refusal.CheckRefusal.{CheckRefusal}
 use Rattle.model.specs.Refusals.{check_number}
-use Rattle.model.specs.Engine.{Engine, Outlet, Settings, check, make}
+use Rattle.model.specs.Cores.{Outlet}
+use Rattle.model.specs.Engine.{Engine, Settings, check, make}
 use Rattle.model.specs.Laws.{Lawful}
 use Rattle.calls.specs.declared.export.PlayRefusal.{PlayRefusal}
 use Rattle.calls.specs.declared.export.PlayRefusal.TheVariants.{Program, Settings as BadSettings}

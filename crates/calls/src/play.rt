@@ -1,9 +1,9 @@
 // Playing a packed list of calls on a new engine, over any memory and any outlet.
 ghost use Rattle.std.specs.Prelude.{◌≡◌, length};
 ghost use Rattle.model.specs.Engine.{make};
-ghost use Rattle.model.specs.Journal.{history};
+ghost use Rattle.model.specs.Traces.{history};
 ghost use Rattle.model.specs.Laws.{Lawful};
-ghost use Rattle.engine.specs.Engines.{outlet_of};
+ghost use Rattle.cores.specs.Shareds.{outlet_of};
 ghost use Rattle.calls.specs.Calls.{call_of};
 ghost use Rattle.calls.specs.Playing.{answered, after, calls_in, words_played, answers_left};
 

@@ -4,7 +4,7 @@ use Rattle.memory.specs.Bytes.{words_in}
 use Rattle.memory.proofs.Quads.{words_length, pasted_part}
 use Rattle.model.specs.Engine.{make}
 use Rattle.laws.proofs.Laws.{lawful, is_played}
-use Rattle.engine.specs.Engines.{outlet_of}
+use Rattle.cores.specs.Shareds.{outlet_of}
 use Rattle.calls.specs.Playing.{calls_in, words_played}
 use Rattle.calls.proofs.Played.{chunk_word, sofar_none, sofar_more, sofar_all}
 use Rattle.calls.proofs.play.play_packed.Goals as goal
