@@ -75,6 +75,7 @@ fn sent(channel: Channel, word: u32) -> SentEntry
 }
 
 // What an instruction of a program asks for at its context.
+#[inline(always)]
 pub(crate) fn action_of(instruction: Instruction, context: &Context) -> Action
     requires targets { target_inside MOST_INSTRUCTIONS instruction ≡ true }
     requires onward { ends instruction ≡ false → context.now.pc < 511 }

@@ -133,6 +133,7 @@ impl<M: Memory, O: Outlet> Shared<M, O> {
     }
 
     // Performs an operation on a context, memory and outlet, and answers the address that it wrote.
+    #[inline(always)]
     pub(crate) fn operate(&mut self, operation: Operation, context: &mut Context) -> Option<usize>
         requires onward { OnwardBy context.old.pc operation }
         requires inside { outside (length self.old.memory) operation ≡ false }
