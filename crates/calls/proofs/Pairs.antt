@@ -1,6 +1,7 @@
 -- The numbers that pairs of bytes hold: how many, and which.
 -- Assumes nothing.
-use Rattle.std.proofs.Common.{◌≡◌, ℕ, ◌+◌, ◌-◌, ◌*◌, ◌/◌, ◌<◌, ◌≤◌, min, List, [], ◌∷◌, ◌++◌, length, get_or, take, drop, sym, refl, ap, ◌∙◌, arith, length-take, length-take-le, take_all}
+use Rattle.std.proofs.Common.{◌≡◌, ℕ, ◌+◌, ◌-◌, ◌*◌, ◌/◌, ◌<◌, ◌≤◌, min, List, [], ◌∷◌, ◌++◌, length, get_or, take, drop, sym, refl, ap}
+use Rattle.std.proofs.Common.{◌∙◌, arith, length-take, length-take-le, take_all}
 use Rattle.std.proofs.lemmas.List.{take_min, take_rest, take-map, map_more, length-map}
 use Rattle.std.specs.Int.{from_be_bytes, w16}
 use Rattle.std.specs.Prelude.{map}

@@ -52,7 +52,8 @@ play_result (Err r) calls answers = Err r
 
 -- the bytes for answers afterwards: as they were where playing was refused
 abbrev pub answers_after : Result (List Instruction) PlayRefusal → (settings memory sent calls answers : List ℕ) → List ℕ
-answers_after (Ok is) settings memory sent calls answers = answers_left (new_engine is settings memory sent) (words_played calls answers) answers
+answers_after (Ok is) settings memory sent calls answers =
+    answers_left (new_engine is settings memory sent) (words_played calls answers) answers
 answers_after (Err r) settings memory sent calls answers = answers
 
 -- the three laws at every point of the run, if there is one

@@ -3,7 +3,8 @@
 -- Assumes nothing.
 use Rattle.std.specs.Prelude.{ℕ, ◌%◌, List, ◌∷◌, Some, None, Option, Ok, Err, Result}
 use Rattle.formats.specs.declared.answer.Answer.{Answer}
-use Rattle.formats.specs.declared.answer.Answer.TheVariants.{Running, Waiting, Done, Committing, Early, Full, Stopped, RolledBack, Retried, Faulted}
+use Rattle.formats.specs.declared.answer.Answer.TheVariants.{Running, Waiting, Done, Committing, Early, Full, Stopped, RolledBack}
+use Rattle.formats.specs.declared.answer.Answer.TheVariants.{Retried, Faulted}
 use Rattle.formats.specs.Answers.{fault_number, answer_number}
 use Rattle.formats.specs.Refusals.{nothing_waits_number}
 use Rattle.formats.specs.declared.entry.SentEntry.{SentEntry}

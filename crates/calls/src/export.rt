@@ -4,13 +4,13 @@ ghost use Rattle.calls.specs.Export.{accepted, play_result, answers_after, Lawfu
 ghost use Rattle.calls.specs.declared.export.PlayRefusal.TheVariants.{Program as OfProgram, Settings as OfSettings};
 
 use crate::play::play_to_end;
+use codecs::program::Program;
 use engine::settings::Settings;
 use formats::refusal::{ProgramRefusal, Refusal};
 use memory::bytes::ByteMemory;
 use memory::shared::Memory;
 use model::refusal::CheckRefusal;
 use outlet::bytes::ByteOutlet;
-use codecs::program::Program;
 
 // A program or settings that are not accepted.
 #[derive(Clone, Copy, PartialEq, Eq, Debug)]
@@ -69,7 +69,8 @@ pub fn play_bytes(
     sent: &mut [u8],
 ) -> Result<usize, PlayRefusal>
     ensures play_result { result ≡ play_result (accepted program.now settings.now memory.old) calls.now answers.old }
-    ensures answers { answers.new ≡ answers_after (accepted program.now settings.now memory.old) settings.now memory.old sent.old calls.now answers.old }
+    ensures answers { let program = accepted program.now settings.now memory.old in
+        answers.new ≡ answers_after program settings.now memory.old sent.old calls.now answers.old }
     ensures lawful { LawfulRun (accepted program.now settings.now memory.old) settings.now memory.old sent.old calls.now answers.old }
     ensures memory { KeptIfRefused (accepted program.now settings.now memory.old) memory.old memory.new }
     ensures sent { KeptIfRefused (accepted program.now settings.now memory.old) sent.old sent.new }
@@ -110,7 +111,8 @@ pub fn hub_play(
     sent: &mut [u8],
 ) -> u64
     ensures play_result { result ≡ result_code (play_result (accepted program.now settings.now memory.old) calls.now answers.old) }
-    ensures answers { answers.new ≡ answers_after (accepted program.now settings.now memory.old) settings.now memory.old sent.old calls.now answers.old }
+    ensures answers { let program = accepted program.now settings.now memory.old in
+        answers.new ≡ answers_after program settings.now memory.old sent.old calls.now answers.old }
     ensures lawful { LawfulRun (accepted program.now settings.now memory.old) settings.now memory.old sent.old calls.now answers.old }
     ensures memory { KeptIfRefused (accepted program.now settings.now memory.old) memory.old memory.new }
     ensures sent { KeptIfRefused (accepted program.now settings.now memory.old) sent.old sent.new }

@@ -41,10 +41,13 @@ pub fn play_packed<M: Memory, O: Outlet>(
     calls: &[u8],
     answers: &mut [u8],
 ) -> Played<M, O>
-    ensures engine { result.hosted ≡ (history settings.entry (M.Memory.words memory) (outlet_of O.Outlet outlet) (calls_in (words_played calls.now answers.old))).engine }
+    ensures engine { let calls = calls_in (words_played calls.now answers.old) in
+        result.hosted ≡ (history settings.entry (M.Memory.words memory) (outlet_of O.Outlet outlet) calls).engine }
     ensures count { result.count ≡ length (words_played calls.now answers.old) }
-    ensures answers { answers.new ≡ answers_left (make settings.entry (M.Memory.words memory) (outlet_of O.Outlet outlet)) (words_played calls.now answers.old) answers.old }
-    ensures lawful { Lawful settings.entry (M.Memory.words memory) (outlet_of O.Outlet outlet) (calls_in (words_played calls.now answers.old)) }
+    ensures answers { let new = make settings.entry (M.Memory.words memory) (outlet_of O.Outlet outlet) in
+        answers.new ≡ answers_left new (words_played calls.now answers.old) answers.old }
+    ensures lawful { let calls = calls_in (words_played calls.now answers.old) in
+        Lawful settings.entry (M.Memory.words memory) (outlet_of O.Outlet outlet) calls }
 {
     let mut hosted = Hosted::make(settings, memory, outlet);
     let (words, _) = calls.as_chunks::<4>();
@@ -67,8 +70,10 @@ pub(crate) fn play_to_end<M: Memory + Drop, O: Outlet + Drop>(
     answers: &mut [u8],
 ) -> usize
     ensures count { result ≡ length (words_played calls.now answers.old) }
-    ensures answers { answers.new ≡ answers_left (make settings.entry (M.Memory.words memory) (outlet_of O.Outlet outlet)) (words_played calls.now answers.old) answers.old }
-    ensures lawful { Lawful settings.entry (M.Memory.words memory) (outlet_of O.Outlet outlet) (calls_in (words_played calls.now answers.old)) }
+    ensures answers { let new = make settings.entry (M.Memory.words memory) (outlet_of O.Outlet outlet) in
+        answers.new ≡ answers_left new (words_played calls.now answers.old) answers.old }
+    ensures lawful { let calls = calls_in (words_played calls.now answers.old) in
+        Lawful settings.entry (M.Memory.words memory) (outlet_of O.Outlet outlet) calls }
 {
     let Played { hosted, count } = play_packed(settings, memory, outlet, calls, answers);
     hosted.close();

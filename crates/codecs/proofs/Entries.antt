@@ -1,6 +1,7 @@
 -- Where the bytes of an entry stand, and what it unpacks to.
 -- Assumes nothing.
-use Rattle.std.proofs.Common.{◌≡◌, ℕ, ◌+◌, ◌-◌, ◌*◌, ◌/◌, ◌<◌, ◌≤◌, List, length, take, drop, Ok, Err, Result, arith, length-drop, length-take-le, drop-drop, lt-ltb}
+use Rattle.std.proofs.Common.{◌≡◌, ℕ, ◌+◌, ◌-◌, ◌*◌, ◌/◌, ◌<◌, ◌≤◌, List, length, take, drop, Ok, Err, Result, arith, length-drop}
+use Rattle.std.proofs.Common.{length-take-le, drop-drop, lt-ltb}
 use Rattle.std.proofs.lemmas.Bool.Decides.{nat_tests}
 use borrow.Rule.Slice.PartMut.{put_mid}
 use Rattle.formats.specs.declared.refusal.Placed.{Placed}

@@ -1,6 +1,8 @@
 -- Reading a program, one instruction more.
 -- Assumes nothing.
-use Rattle.std.proofs.Common.{◌≡◌, ℕ, suc, ◌+◌, ◌-◌, ◌/◌, ◌<◌, ◌≤◌, true, List, [], ◌∷◌, ◌++◌, length, get_or, take, drop, replicate, set, Ok, Err, Result, sym, ap, ◌∙◌, append_assoc, append-nil, drop-drop, add-one, arith, length-set, length-take-le, get_or-take, take-suc-set}
+use Rattle.std.proofs.Common.{◌≡◌, ℕ, suc, ◌+◌, ◌-◌, ◌/◌, ◌<◌, ◌≤◌, true, List, [], ◌∷◌, ◌++◌, length, get_or, take, drop, replicate}
+use Rattle.std.proofs.Common.{set, Ok, Err, Result, sym, ap, ◌∙◌, append_assoc, append-nil, drop-drop, add-one, arith, length-set}
+use Rattle.std.proofs.Common.{length-take-le, get_or-take, take-suc-set}
 use Rattle.std.specs.Option.{unwrap_or}
 use Rattle.std.proofs.lemmas.List.{get_or_default, get_or_past, drop-set-lt}
 use Rattle.std.proofs.lemmas.Bool.Decides.{nat_tests}

@@ -18,7 +18,8 @@ pub fn count<E: PackedEntry>(bytes: &[u8]) -> usize
 
 // Where the bytes of the entry at a place stand, or None where the place is outside.
 fn span<E: PackedEntry>(len: usize, place: usize) -> Option<Range<usize>>
-    ensures { MatchOption result (len / E.width ≤ place) (λ span. (place < len / E.width) × (span.start ≡ place * E.width) × (span.end ≡ span.start + E.width) × (span.end ≤ len)) }
+    ensures { MatchOption result (len / E.width ≤ place)
+        (λ span. (place < len / E.width) × (span.start ≡ place * E.width) × (span.end ≡ span.start + E.width) × (span.end ≤ len)) }
 {
     let size = E::size();
     if place < len / size {

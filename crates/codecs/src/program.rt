@@ -34,6 +34,7 @@ impl Model for Program {
     ghost inverse_ok = { λ p h.
         let long : length (front p) ≡ p.count = length-take-le p.count p.instructions (omega (arith, h.sized, h.within)) in
         let whole : front p ++ replicate (512 - length (front p)) Halt ≡ p.instructions =
-        ap (λ n. front p ++ replicate (512 - n) Halt) long ∙ ap (λ r. front p ++ r) (sym h.blank) ∙ take-append-drop p.count p.instructions in
+        ap (λ n. front p ++ replicate (512 - n) Halt) long ∙ ap (λ r. front p ++ r) (sym h.blank)
+        ∙ take-append-drop p.count p.instructions in
         λ i. record { instructions = whole i; count = long i } };
 }

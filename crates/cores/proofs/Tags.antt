@@ -1,6 +1,7 @@
 -- The tagged addresses of lines.
 -- Assumes nothing.
-use Rattle.std.proofs.Common.{◌≡◌, ℕ, ◌≤◌, ◌<◌, false, zero-add, cond, eqb, List, [], ◌∷◌, ◌++◌, length, take, drop, Ok, Err, Result, Some, Option, sym, refl, ap, ◌∙◌, subst, inl, inr, arith, length-append, length-drop, take_all}
+use Rattle.std.proofs.Common.{◌≡◌, ℕ, ◌≤◌, ◌<◌, false, zero-add, cond, eqb, List, [], ◌∷◌, ◌++◌, length, take, drop, Ok, Err, Result}
+use Rattle.std.proofs.Common.{Some, Option, sym, refl, ap, ◌∙◌, subst, inl, inr, arith, length-append, length-drop, take_all}
 use Rattle.std.specs.List.{count_by}
 use Rattle.std.specs.Result.{OnErr, MatchResult}
 use Rattle.std.specs.Iterator.{Drains, Yields, YieldsThen}

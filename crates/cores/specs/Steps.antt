@@ -1,5 +1,4 @@
 -- What a step leaves and answers, of what it comes to.
---   affected      memory and outlet after an effect
 --   stepped_of    what is answered: what the core says, and the address that it wrote
 --   Attempted     what trying a step leaves and answers, refused or not
 -- Assumes nothing.
@@ -8,15 +7,10 @@ use Rattle.model.specs.declared.effect.Effect.{Effect}
 use Rattle.model.specs.declared.effect.Effect.TheVariants.{Wrote}
 use Rattle.model.specs.declared.refusal.StepRefusal.{StepRefusal}
 use Rattle.model.specs.declared.refusal.StepRefusal.TheVariants.{RecordFull}
-use Rattle.model.specs.Instructions.{memory_after}
 use Rattle.model.specs.Cores.{Core, Shared, Outcome, outcome}
-use Rattle.model.specs.Engine.{outlet_after, shared_after}
+use Rattle.model.specs.Engine.{shared_after}
 use Rattle.model.specs.Calls.{has_entries}
 use Rattle.cores.specs.declared.state_machine.Stepped.{Stepped}
-
--- memory and outlet after an effect
-abbrev pub affected : Effect → Shared → Shared
-affected x s = record s { memory = memory_after x s.memory; outlet = outlet_after x s.outlet }
 
 -- the address that an effect writes
 abbrev pub written : Effect → Option ℕ

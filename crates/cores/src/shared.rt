@@ -6,7 +6,8 @@ ghost use Rattle.model.specs.Instructions.{outside, context_after, effect_of};
 ghost use Rattle.model.specs.Cores.{is_free, freed, no_room};
 ghost use Rattle.model.specs.Calls.{wanted, has_entries};
 ghost use Rattle.cores.specs.Onwards.{OnwardBy};
-ghost use Rattle.cores.specs.Steps.{affected, written};
+ghost use Rattle.model.specs.Engine.{affected};
+ghost use Rattle.cores.specs.Steps.{written};
 
 use crate::instructions::{pass, set};
 use crate::record::Record;
@@ -117,7 +118,8 @@ impl<M: Memory, O: Outlet> Shared<M, O> {
     pub(crate) fn finish(&mut self, me: CoreNumber, mark: Mark, count: u32)
         requires room { length self.old.entries < MOST_ENTRIES }
         requires count { count ≤ 4096 }
-        ensures { self.new ≡ record self.old { token = freed self.old.token me.value; entries = self.old.entries ++ entry me.value mark count ∷ [] } }
+        ensures { let entries = self.old.entries ++ (entry me.value mark count ∷ []) in
+            self.new ≡ record self.old { token = freed self.old.token me.value; entries = entries } }
     {
         self.record.push(entry_of(me, mark, count));
         if self.token == Token::Core(me.value() as usize) {

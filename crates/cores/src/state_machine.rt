@@ -10,11 +10,11 @@ ghost use Rattle.model.specs.Lines.{has_line, next_write, after_write};
 ghost use Rattle.model.specs.Cores.{resting, opened, turned_to, performed, rolled_back, is_free};
 ghost use Rattle.model.specs.Cores.{faulted, ends, in_bypass, early, continued, with_line, buffered, closes, in_transaction, in_commit};
 ghost use Rattle.model.specs.Cores.{in_early_flush, direct, in_early_commit};
-ghost use Rattle.model.specs.Engine.{new_core, written_at, shared_after};
+ghost use Rattle.model.specs.Engine.{new_core, written_at, affected, shared_after};
 ghost use Rattle.model.specs.Calls.{status_of, LineTags};
 ghost use Rattle.cores.specs.Bounds.{pc_most, count_most};
 ghost use Rattle.cores.specs.Onwards.{Onward, OnwardBy, OnwardInBlock};
-ghost use Rattle.cores.specs.Steps.{affected, written, stepped_of, Attempted};
+ghost use Rattle.cores.specs.Steps.{written, stepped_of, Attempted};
 
 use crate::buffer::Buffer;
 use crate::instructions::{accesses, action_of, outside, pass, set};

@@ -23,8 +23,11 @@ pub fn play<M: Memory, O: Outlet>(
     calls: &[Call],
     replies: &mut [Reply],
 ) -> Hosted<M, O>
-    ensures engine { result ≡ (history settings.entry (M.Memory.words memory) (outlet_of O.Outlet outlet) (playable calls.now replies.old)).engine }
-    ensures replies { replies.new ≡ model_replies (make settings.entry (M.Memory.words memory) (outlet_of O.Outlet outlet)) (playable calls.now replies.old) ++ drop (length (playable calls.now replies.old)) replies.old }
+    ensures engine { let calls = playable calls.now replies.old in
+        result ≡ (history settings.entry (M.Memory.words memory) (outlet_of O.Outlet outlet) calls).engine }
+    ensures replies { let calls = playable calls.now replies.old in
+        let new = make settings.entry (M.Memory.words memory) (outlet_of O.Outlet outlet) in
+        replies.new ≡ model_replies new calls ++ drop (length calls) replies.old }
     ensures lawful { Lawful settings.entry (M.Memory.words memory) (outlet_of O.Outlet outlet) (playable calls.now replies.old) }
 {
     let mut hosted = Hosted::make(settings, memory, outlet);

@@ -4,7 +4,8 @@ use Rattle.std.specs.Prelude.{ℕ, List, [], ◌∷◌}
 use Rattle.formats.specs.declared.answer.Fault.{Fault}
 use Rattle.formats.specs.declared.answer.Fault.TheVariants.{AddressOutside, NoOpenBlock, TooDeep, TooLong, HaltInBlock, RetryAfterEarly}
 use Rattle.formats.specs.declared.answer.Answer.{Answer}
-use Rattle.formats.specs.declared.answer.Answer.TheVariants.{Running, Waiting, Done, Committing, Early, Full, Stopped, RolledBack, Retried, Faulted}
+use Rattle.formats.specs.declared.answer.Answer.TheVariants.{Running, Waiting, Done, Committing, Early, Full}
+use Rattle.formats.specs.declared.answer.Answer.TheVariants.{Stopped, RolledBack, Retried, Faulted}
 
 -- a fault, by its number
 abbrev pub fault_number : Fault → ℕ

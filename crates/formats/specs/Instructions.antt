@@ -1,6 +1,6 @@
 -- An instruction as one word: five fields, most significant first.
 -- Assumes nothing.
-use Rattle.std.specs.Prelude.{ℕ, ◌+◌, ◌*◌, ◌/◌, ◌%◌, ◌^◌, Bool, true, false, cond, ◌&&◌, List, Ok, Err, Result, ◌==◌, nat_eq, nat_lt}
+use Rattle.std.specs.Prelude.{ℕ, ◌+◌, ◌*◌, ◌/◌, ◌%◌, ◌^◌, Bool, if◌then◌else◌, ◌&&◌, List, Ok, Err, Result, ◌==◌, nat_eq, nat_lt}
 use Rattle.formats.specs.declared.refusal.InstructionFault.{InstructionFault}
 use Rattle.formats.specs.declared.refusal.InstructionFault.TheVariants.{UnknownOpcode, BadField}
 use Rattle.formats.specs.declared.below.Below.{Below}
@@ -8,7 +8,8 @@ use Rattle.formats.specs.declared.register.Register.{Register}
 use Rattle.formats.specs.declared.register.Register.TheVariants.{R0}
 use Rattle.formats.specs.declared.instruction.Fields.{Fields}
 use Rattle.formats.specs.declared.instruction.Instruction.{Instruction}
-use Rattle.formats.specs.declared.instruction.Instruction.TheVariants.{Halt, Set, Add, Sub, Mean, Load, Store, Jump, Jz, Jlt, Begin, End, Retry, Early, Out}
+use Rattle.formats.specs.declared.instruction.Instruction.TheVariants.{Halt, Set, Add, Sub, Mean, Load, Store, Jump, Jz, Jlt}
+use Rattle.formats.specs.declared.instruction.Instruction.TheVariants.{Begin, End, Retry, Early, Out}
 use Rattle.formats.specs.Belows.{immediate_of, channel_of}
 use Rattle.formats.specs.Bytes.{bytes_of, spelled}
 use Rattle.formats.specs.Registers.{register_number, register_at}
@@ -55,8 +56,7 @@ encoded (Out a channel) = placed 14 R0 a R0 (immediate_of channel.value)
 
 -- the instruction where its unnamed fields are zero, and else the refusal
 abbrev pub only_if : Bool → Instruction → Result Instruction InstructionFault
-only_if true i = Ok i
-only_if false i = Err BadField
+only_if zero i = if zero then Ok i else Err BadField
 
 -- the instruction that some fields spell, or why there is none: the opcode is asked for first
 abbrev pub decoded : Fields → Result Instruction InstructionFault
@@ -65,27 +65,23 @@ decoded f =
     let no_a = nat_eq (register_number f.a) 0 in
     let no_b = nat_eq (register_number f.b) 0 in
     let no_n = nat_eq f.n.value 0 in
-    let d = f.d in
-    let a = f.a in
-    let b = f.b in
-    let n = f.n in
     let none = no_d && no_a && no_b && no_n in
-    cond (f.opcode == 0) (only_if none Halt)
-    (cond (f.opcode == 1) (only_if (no_a && no_b) (Set d n))
-    (cond (f.opcode == 2) (only_if no_n (Add d a b))
-    (cond (f.opcode == 3) (only_if no_n (Sub d a b))
-    (cond (f.opcode == 4) (only_if no_n (Mean d a b))
-    (cond (f.opcode == 5) (only_if no_b (Load d a n))
-    (cond (f.opcode == 6) (only_if no_d (Store a b n))
-    (cond (f.opcode == 7) (only_if (no_d && no_a && no_b) (Jump n))
-    (cond (f.opcode == 8) (only_if (no_d && no_b) (Jz a n))
-    (cond (f.opcode == 9) (only_if no_d (Jlt a b n))
-    (cond (f.opcode == 10) (only_if none Begin)
-    (cond (f.opcode == 11) (only_if none End)
-    (cond (f.opcode == 12) (only_if none Retry)
-    (cond (f.opcode == 13) (only_if none Early)
-    (cond (f.opcode == 14) (only_if (no_d && no_b && nat_lt n.value 256) (Out a (channel_of n.value)))
-    (Err UnknownOpcode)))))))))))))))
+    if f.opcode == 0 then only_if none Halt
+    else if f.opcode == 1 then only_if (no_a && no_b) (Set f.d f.n)
+    else if f.opcode == 2 then only_if no_n (Add f.d f.a f.b)
+    else if f.opcode == 3 then only_if no_n (Sub f.d f.a f.b)
+    else if f.opcode == 4 then only_if no_n (Mean f.d f.a f.b)
+    else if f.opcode == 5 then only_if no_b (Load f.d f.a f.n)
+    else if f.opcode == 6 then only_if no_d (Store f.a f.b f.n)
+    else if f.opcode == 7 then only_if (no_d && no_a && no_b) (Jump f.n)
+    else if f.opcode == 8 then only_if (no_d && no_b) (Jz f.a f.n)
+    else if f.opcode == 9 then only_if no_d (Jlt f.a f.b f.n)
+    else if f.opcode == 10 then only_if none Begin
+    else if f.opcode == 11 then only_if none End
+    else if f.opcode == 12 then only_if none Retry
+    else if f.opcode == 13 then only_if none Early
+    else if f.opcode == 14 then only_if (no_d && no_b && nat_lt f.n.value 256) (Out f.a (channel_of f.n.value))
+    else Err UnknownOpcode
 
 -- an instruction's word, and what a word unpacks to
 abbrev pub instruction_word : Instruction → ℕ

@@ -1,6 +1,8 @@
 // Why a call was refused: each case is a question that was answered with no.
 ghost use Rattle.std.specs.Prelude.{◌≡◌, ℕ};
-ghost use Rattle.formats.specs.Refusals.{instruction_number, entry_number, program_number, list_number, placed_number, outside_list_number, outside_memory_number, nothing_waits_number, placed_fault, program_refusal};
+ghost use Rattle.formats.specs.Refusals.{instruction_number, entry_number, program_number, list_number, placed_number};
+ghost use Rattle.formats.specs.Refusals.{outside_list_number, outside_memory_number, nothing_waits_number, placed_fault};
+ghost use Rattle.formats.specs.Refusals.{program_refusal};
 ghost use Rattle.formats.specs.declared.refusal.ListRefusal.TheVariants.{Entry};
 
 // The questions of refusals that are structs without cases, which have no number of their own.

@@ -18,7 +18,8 @@ use Rattle.model.specs.declared.line.Line.{Line}
 use Rattle.model.specs.Instructions.{Decision, decision_at, past, context_after, effect_of, memory_after, sent_by}
 use Rattle.model.specs.OneAtATime.{Inside, further, run}
 use Rattle.model.specs.Lines.{any_dirty, next_write, after_write}
-use Rattle.model.specs.Cores.{Core, settle, resting, turned_to, performed, settled_context, settled_stopped, acts, no_room, ends, in_commit, in_early_flush, in_early_commit}
+use Rattle.model.specs.Cores.{Core, settle, resting, turned_to, performed, settled_context, settled_stopped, acts, no_room, ends}
+use Rattle.model.specs.Cores.{in_commit, in_early_flush, in_early_commit}
 use Rattle.model.specs.Engine.{Engine, core_at, shared}
 use Rattle.model.specs.Blocks.{block, Hit}
 use Rattle.model.specs.Traces.{Trace}

@@ -21,7 +21,8 @@ use Rattle.model.specs.declared.effect.Effect.{Effect}
 use Rattle.model.specs.declared.effect.Effect.TheVariants.{Nothing}
 use Rattle.model.specs.Instructions.{action_at, outside, past, context_after, effect_of, sent_by}
 use Rattle.model.specs.OneAtATime.{Alone, Whole, Faults, first}
-use Rattle.model.specs.Cores.{Core, settled_context, settled_stopped, Outcome, resting, opened, rolled_back, is_free, once_free, faulted, plain, accesses, no_room, operates, in_bypass, step_by_state}
+use Rattle.model.specs.Cores.{Core, settled_context, settled_stopped, Outcome, resting, opened, rolled_back, is_free, once_free}
+use Rattle.model.specs.Cores.{faulted, plain, accesses, no_room, operates, in_bypass, step_by_state}
 use Rattle.model.specs.Engine.{Engine, core_at, shared}
 use Rattle.model.specs.Traces.{Trace}
 use Rattle.laws.proofs.Invariant.{alone, Matches, SentIs, Inv}

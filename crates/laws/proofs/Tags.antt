@@ -1,6 +1,7 @@
 -- A core's lines are at different addresses, and so its tags can be copied, each once.
 -- Assumes nothing.
-use Rattle.std.proofs.Common.{count_by, eqb, ◌≡◌, ℕ, ◌≤◌, false, cond, ltb, leb, List, [], ◌∷◌, ◌++◌, length, drop, Ok, Err, Result, refl, ap, ◌∙◌, inl, inr, arith}
+use Rattle.std.proofs.Common.{count_by, eqb, ◌≡◌, ℕ, ◌≤◌, false, cond, ltb, leb, List, [], ◌∷◌, ◌++◌, length, drop, Ok, Err, Result}
+use Rattle.std.proofs.Common.{refl, ap, ◌∙◌, inl, inr, arith}
 use Rattle.std.proofs.lemmas.List.{length-append, length-drop, take_at, drop_at}
 use Rattle.std.proofs.lemmas.List.Sums.{sum_by-cons}
 use Rattle.std.proofs.lemmas.Bool.Decides.{nat_tests}

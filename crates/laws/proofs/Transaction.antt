@@ -1,6 +1,7 @@
 -- Steps of a core in TRANSACTION.
 -- Assumes nothing.
-use Rattle.std.proofs.Common.{◌≡◌, ℕ, suc, ◌<◌, true, false, ltb, cond, List, [], ◌∷◌, ◌++◌, length, get_or, sym, refl, ap, ◌∙◌, subst, arith, Ok, Err}
+use Rattle.std.proofs.Common.{◌≡◌, ℕ, suc, ◌<◌, true, false, ltb, cond, List, [], ◌∷◌, ◌++◌, length, get_or, sym, refl, ap, ◌∙◌, subst}
+use Rattle.std.proofs.Common.{arith, Ok, Err}
 use Rattle.std.proofs.lemmas.List.{append-nil}
 use Rattle.std.proofs.lemmas.Bool.Decides.{nat_tests}
 use Rattle.std.proofs.lemmas.Bool.{cond_both}
@@ -23,7 +24,8 @@ use Rattle.model.specs.declared.line.Line.{Line}
 use Rattle.model.specs.Instructions.{Decision, outside, action_at, decision_at, with_reg, past}
 use Rattle.model.specs.OneAtATime.{Inside, operated, further, run}
 use Rattle.model.specs.Lines.{has_line, value_at, tagged, loaded_line, stored_line, store_at, any_dirty}
-use Rattle.model.specs.Cores.{Core, settle, resting, turned_to, performed, rolled_back, takes_token, continued, faulted, early, closes, buffered, with_line, in_transaction}
+use Rattle.model.specs.Cores.{Core, settle, resting, turned_to, performed, rolled_back, takes_token, continued, faulted, early, closes}
+use Rattle.model.specs.Cores.{buffered, with_line, in_transaction}
 use Rattle.model.specs.Engine.{Engine, core_at, shared}
 use Rattle.model.specs.Blocks.{Move, Reads, Writes, Neither, touch, own_move, block, Hit}
 use Rattle.model.specs.Traces.{Trace}

@@ -13,7 +13,8 @@ use Rattle.formats.specs.declared.instruction.Instruction.{Instruction}
 use Rattle.formats.specs.Records.{entry}
 use Rattle.model.specs.Instructions.{Decision, decision_at}
 use Rattle.model.specs.declared.context.Context.{Context}
-use Rattle.model.specs.OneAtATime.{Alone, Machine, Progress, Fresh, Inside, Whole, Faults, Impossible, further, no_core, run, unit, looked_at, turn, and_then, runs}
+use Rattle.model.specs.OneAtATime.{Alone, Machine, Progress, Fresh, Inside, Whole, Faults, Impossible, further, no_core, run, unit}
+use Rattle.model.specs.OneAtATime.{looked_at, turn, and_then, runs}
 use Rattle.model.specs.Cores.{Core, settle, settled_stopped, settled_context}
 use Rattle.model.specs.Engine.{Engine, core_at, blank}
 use Rattle.model.specs.Traces.{Trace}

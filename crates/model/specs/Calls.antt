@@ -3,8 +3,8 @@
 --   clear, hold, read, give_back    the record is emptied, and the host's hold
 --   take_oldest, record_at, Tags, status  outlet, record, tags, and what people see
 -- Assumes nothing.
-use Rattle.std.specs.Prelude.{◌≡◌, ℕ, suc, ◌+◌, if◌then◌else◌, List, [], ◌∷◌, length, map, take, drop, Some, None, Ok, Err, Option, Result, ◌==◌}
-use Rattle.std.specs.Prelude.{nat_le, nat_lt, slice_get, slice_index, count_by, Bool, MatchBool}
+use Rattle.std.specs.Prelude.{◌≡◌, ℕ, suc, ◌+◌, ◌==◌, nat_le, nat_lt, Bool, if◌then◌else◌, MatchBool, Some, None, Option, Ok, Err, Result}
+use Rattle.std.specs.Prelude.{List, [], ◌∷◌, length, take, drop, slice_get, slice_index, count_by}
 use Rattle.std.specs.Option.{ok_or}
 use Rattle.formats.specs.declared.answer.Answer.{Answer}
 use Rattle.formats.specs.declared.refusal.NothingWaits.{NothingWaits}

@@ -4,7 +4,7 @@
 --   Outcome   the core afterwards, the effect, the token, what is added to the record, the answer
 --   outcome   what a step comes to, by the core's state and its instruction
 -- Assumes nothing.
-use Rattle.std.specs.Prelude.{ℕ, suc, Bool, true, false, if◌then◌else◌, ◌&&◌, List, [], ◌∷◌, ◌++◌, length, Ok, Err, ◌==◌, nat_lt, slice_index}
+use Rattle.std.specs.Prelude.{ℕ, suc, ◌==◌, nat_lt, Bool, true, false, if◌then◌else◌, Ok, Err, List, [], ◌∷◌, ◌++◌, length, slice_index}
 use Rattle.formats.specs.declared.answer.Fault.{Fault}
 use Rattle.formats.specs.declared.answer.Fault.TheVariants.{AddressOutside, NoOpenBlock}
 use Rattle.formats.specs.declared.answer.Answer.{Answer}

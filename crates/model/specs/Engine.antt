@@ -2,8 +2,8 @@
 --   Settings  program, entry places and lines;  check  the first refusal;  make  the engine
 --   change    the one way in which a step changes an engine
 -- Assumes nothing.
-use Rattle.std.specs.Prelude.{ℕ, ◌-◌, Bool, if◌then◌else◌, ◌&&◌, List, [], ◌∷◌, ◌++◌, map, length, replicate, min, Ok, Err, Result, nat_le, nat_lt}
-use Rattle.std.specs.Prelude.{slice_index_or, slice_set}
+use Rattle.std.specs.Prelude.{ℕ, ◌-◌, min, nat_le, nat_lt, Bool, if◌then◌else◌, ◌&&◌, Ok, Err, Result}
+use Rattle.std.specs.Prelude.{List, [], ◌∷◌, ◌++◌, map, length, replicate, slice_index_or, slice_set}
 use Rattle.std.specs.List.{list_all}
 use Rattle.formats.specs.declared.bounds.TheConstants.{MOST_CORES, MOST_LINES, MOST_ENGINE_WORDS}
 use Rattle.formats.specs.declared.entry.RecordEntry.{RecordEntry}
@@ -43,6 +43,19 @@ pub record Engine : Type 0 where
   -- the core that turn steps next
   pub next : ℕ
 
+-- an engine by what its cores share, the cores, and which is next
+abbrev pub engine_of : Shared → List Core → ℕ → Engine
+engine_of s cs next = record {
+  program = s.program;
+  capacity = s.capacity;
+  memory = s.memory;
+  outlet = s.outlet;
+  cores = cs;
+  token = s.token;
+  entries = s.entries;
+  next = next;
+}
+
 -- is a number at least one and at most another?
 abbrev pub up_to : ℕ → ℕ → Bool
 up_to n most = nat_lt 0 n && nat_le n most
@@ -77,16 +90,9 @@ new_cores (Err _) places = []
 
 -- a new engine; lines that are refused as too many count for nothing, since there is no core
 abbrev pub make : Settings → List ℕ → Outlet → Engine
-make s m o = record {
-  program = s.program;
-  capacity = min s.lines MOST_LINES;
-  memory = m;
-  outlet = o;
-  cores = new_cores (check s (length m)) s.places;
-  token = Free;
-  entries = [];
-  next = 0;
-}
+make s m o =
+    engine_of (record { program = s.program; capacity = min s.lines MOST_LINES; memory = m; outlet = o; token = Free; entries = [] })
+    (new_cores (check s (length m)) s.places) 0
 
 -- what stands for a core that does not exist
 abbrev pub blank : Core
@@ -100,32 +106,18 @@ core_at e i = slice_index_or e.cores i blank
 abbrev pub shared : Engine → Shared
 shared e = record { program = e.program; capacity = e.capacity; memory = e.memory; outlet = e.outlet; token = e.token; entries = e.entries }
 
--- an engine by what its cores share, the cores, and which is next
-abbrev pub engine_of : Shared → List Core → ℕ → Engine
-engine_of s cs next = record {
-  program = s.program;
-  capacity = s.capacity;
-  memory = s.memory;
-  outlet = s.outlet;
-  cores = cs;
-  token = s.token;
-  entries = s.entries;
-  next = next;
-}
-
 -- the outlet after an effect
 abbrev pub outlet_after : Effect → Outlet → Outlet
 outlet_after (Sent y) o = record { waiting = o.waiting ++ y ∷ []; room = o.room - 1 }
 outlet_after _ o = o
 
+-- memory and outlet after an effect
+abbrev pub affected : Effect → Shared → Shared
+affected x s = record s { memory = memory_after x s.memory; outlet = outlet_after x s.outlet }
+
 -- what the cores share, after a step of one
 abbrev pub shared_after : Outcome → Shared → Shared
-shared_after o s = record s {
-  memory = memory_after o.effect s.memory;
-  outlet = outlet_after o.effect s.outlet;
-  token = o.token;
-  entries = s.entries ++ o.entries;
-}
+shared_after o s = record (affected o.effect s) { token = o.token; entries = s.entries ++ o.entries }
 
 -- a core in TRANSACTION that has a tagged line where a word was written goes to ABORT
 abbrev pub written_at : State → ℕ → Core → Core

@@ -4,8 +4,8 @@
 --   context_after, effect_of, memory_after, sent_by   what an operation does
 --   decided      what an action comes to inside a block: a fault, or how the block goes on
 -- Assumes nothing.
-use Rattle.std.specs.Prelude.{ℕ, suc, ◌+◌, ◌-◌, ◌/◌, ◌%◌, ◌^◌, Bool, false, if◌then◌else◌, List, [], ◌∷◌, Ok, Err, Result, ◌==◌, nat_lt, nat_le}
-use Rattle.std.specs.Prelude.{slice_index, slice_index_or, slice_set}
+use Rattle.std.specs.Prelude.{ℕ, suc, ◌+◌, ◌-◌, ◌/◌, ◌%◌, ◌^◌, ◌==◌, nat_lt, nat_le, Bool, false, if◌then◌else◌, Ok, Err, Result}
+use Rattle.std.specs.Prelude.{List, [], ◌∷◌, slice_index, slice_index_or, slice_set}
 use Rattle.formats.specs.declared.answer.Fault.{Fault}
 use Rattle.formats.specs.declared.answer.Fault.TheVariants.{AddressOutside, TooDeep, TooLong, HaltInBlock, RetryAfterEarly}
 use Rattle.formats.specs.declared.bounds.TheConstants.{MOST_BEGINS, MOST_PERFORMED}
@@ -14,7 +14,8 @@ use Rattle.formats.specs.Registers.{register_number}
 use Rattle.formats.specs.declared.entry.SentEntry.{SentEntry}
 use Rattle.formats.specs.Sents.{sent_word}
 use Rattle.formats.specs.declared.instruction.Instruction.{Instruction}
-use Rattle.formats.specs.declared.instruction.Instruction.TheVariants.{Halt, Set, Add, Sub, Mean, Load, Store, Jump, Jz, Jlt, Begin, End, Retry, Early, Out}
+use Rattle.formats.specs.declared.instruction.Instruction.TheVariants.{Halt, Set, Add, Sub, Mean, Load, Store, Jump, Jz, Jlt}
+use Rattle.formats.specs.declared.instruction.Instruction.TheVariants.{Begin, End, Retry, Early, Out}
 use Rattle.model.specs.declared.context.Context.{Context}
 use Rattle.model.specs.declared.action.Operation.{Operation}
 use Rattle.model.specs.declared.action.Operation.TheVariants.{Sets, Jumps, Loads, Stores, Sends}
@@ -92,7 +93,7 @@ sent_by _ = []
 abbrev pub Decision : Type 0
 Decision = Result BlockAction Fault
 
--- in a block that has performed fewer instructions than it may; a direct block, whose words go straight to memory and outlet, does not restart
+-- in a block that has performed fewer instructions than it may; a direct block, which reads and writes memory itself, does not restart
 abbrev pub within : (direct : Bool) → (words depth : ℕ) → Action → Decision
 within direct words depth (Performs o) = if outside words o then Err AddressOutside else Ok (Continues o)
 within direct words depth Begins = if nat_lt depth MOST_BEGINS then Ok (Nests (suc depth)) else Err TooDeep

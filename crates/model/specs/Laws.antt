@@ -59,7 +59,8 @@ ObservedAt r = (c : Call) → Told r c
 abbrev pub SerialAt : Run → Type 0
 SerialAt r = NoCoreHas r.engine.token → Explained r
 
--- roll-back: a core that moves answers "rolled back" exactly when it has an open block and another core has written a word that the block had taken
+-- roll-back: a core that moves answers "rolled back" exactly when it has an open block and another core has written a word that
+-- the block had taken
 abbrev pub RollBackAt : Run → Type 0
 RollBackAt r =
     (c : Call) (i : ℕ) (action : Action) (answer : Answer) (x : Effect) →

@@ -1,6 +1,7 @@
 // Why a call of the engine was refused: each case is a question that was answered with no, with its number.
 // One enum for each call, also where two ask the same question, so that a call's type says what it can be refused for.
-ghost use Rattle.model.specs.Refusals.{check_number, step_number, clear_number, hold_number, read_number, give_back_number, record_number, tags_number};
+ghost use Rattle.model.specs.Refusals.{check_number, step_number, clear_number, hold_number, read_number, give_back_number};
+ghost use Rattle.model.specs.Refusals.{record_number, tags_number};
 
 use formats::refusal::Refusal;
 

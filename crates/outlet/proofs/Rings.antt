@@ -1,5 +1,7 @@
 -- One entry more at the end of a ring, and one less at its start.
-use Rattle.std.proofs.Common.{◌≡◌, ℕ, zero, suc, ◌+◌, ◌-◌, ◌<◌, ◌≤◌, ◌≢◌, List, [], ◌∷◌, ◌++◌, length, get_or, drop, set, sym, ap, ◌∙◌, inl, inr, arith, length-append, length-drop, length-set, length-take, get_or-drop, get_or-set_other, get_or-take, get_or-set_same}
+use Rattle.std.proofs.Common.{◌≡◌, ℕ, zero, suc, ◌+◌, ◌-◌, ◌<◌, ◌≤◌, ◌≢◌, List, [], ◌∷◌, ◌++◌, length, get_or, drop, set, sym, ap, ◌∙◌}
+use Rattle.std.proofs.Common.{inl, inr, arith, length-append, length-drop, length-set, length-take, get_or-drop, get_or-set_other}
+use Rattle.std.proofs.Common.{get_or-take, get_or-set_same}
 use Rattle.std.proofs.lemmas.List.{get_or_append_left, get_or-append_right, take_more, same_lists, drop_more, drop_at, take-append-le}
 use Rattle.std.proofs.lemmas.Bool.{lt-ltb, le-ltb, cases_lt}
 use Rattle.std.proofs.lemmas.Bool.Decides.{nat_tests}

@@ -14,7 +14,9 @@ pub data Backing : Type 0 where
 abbrev pub backing_sent : Backing → SentEntry → Backing
 backing_sent nothing entry = nothing
 backing_sent (over buffer bytes first count) entry =
-    over buffer (bytes_sent bytes (length bytes / 5 - count) (wrapped (length bytes / 5) (first + count)) entry) first (count_claimed (length bytes / 5) count)
+    over buffer
+    (bytes_sent bytes (length bytes / 5 - count) (wrapped (length bytes / 5) (first + count)) entry)
+    first (count_claimed (length bytes / 5) count)
 
 -- after taking: all bytes stay
 abbrev pub backing_taken : Backing → Backing

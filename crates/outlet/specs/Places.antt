@@ -1,4 +1,5 @@
--- What stands in the places of a ring: the entries that wait, the room, the place of the next entry; and the ring itself, empty and after each call.
+-- What stands in the places of a ring: the entries that wait, the room, the place of the next entry; and the ring itself, empty and
+-- after each call.
 use Rattle.std.specs.Prelude.{◌≡◌, ℕ, ◌+◌, ◌-◌, List}
 use Rattle.std.specs.Borrow.{MutBor}
 use Rattle.formats.specs.declared.entry.SentEntry.{SentEntry}

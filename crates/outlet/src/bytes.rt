@@ -46,7 +46,8 @@ impl<'a> Outlet for ByteOutlet<'a> {
     // Beyond what every outlet promises: the entry's bytes go into the next slot, and all other bytes stay.
     fn send(&mut self, entry: SentEntry) -> Result<(), NoRoom>
         ensures value { result ≡ send_answer (room_in self.old.ring) }
-        ensures after { waiting_in self.new.bytes self.new.ring ≡ sent (waiting_in self.old.bytes self.old.ring) (room_in self.old.ring) entry }
+        ensures after { waiting_in self.new.bytes self.new.ring
+            ≡ sent (waiting_in self.old.bytes self.old.ring) (room_in self.old.ring) entry }
         ensures left { room_in self.new.ring ≡ room_sent (room_in self.old.ring) }
         ensures stands { bytes_backing self.new.bytes self.new.ring ≡ backing_sent (bytes_backing self.old.bytes self.old.ring) entry }
         ensures buffer { self.new.bytes.now ≡ bytes_sent self.old.bytes.now (room_in self.old.ring) (next_place self.old.ring) entry }

@@ -17,7 +17,8 @@ pub extern "C" fn hub_play(
     sent: &mut [u8],
 ) -> u64
     ensures play_result { result ≡ result_code (play_result (accepted program.now settings.now memory.old) calls.now answers.old) }
-    ensures answers { answers.new ≡ answers_after (accepted program.now settings.now memory.old) settings.now memory.old sent.old calls.now answers.old }
+    ensures answers { let program = accepted program.now settings.now memory.old in
+        answers.new ≡ answers_after program settings.now memory.old sent.old calls.now answers.old }
     ensures lawful { LawfulRun (accepted program.now settings.now memory.old) settings.now memory.old sent.old calls.now answers.old }
     ensures memory { KeptIfRefused (accepted program.now settings.now memory.old) memory.old memory.new }
     ensures sent { KeptIfRefused (accepted program.now settings.now memory.old) sent.old sent.new }

@@ -1,6 +1,7 @@
 // The packed form of an instruction: one word, most significant byte first.
 ghost use Rattle.std.specs.Prelude.{◌≡◌, ◌<◌};
-ghost use Rattle.formats.specs.Instructions.{placed, joined, split, encoded, decoded, only_if, instruction_bytes, bytes_instruction, instruction_word, word_instruction};
+ghost use Rattle.formats.specs.Instructions.{placed, joined, split, encoded, decoded, only_if, instruction_bytes, bytes_instruction};
+ghost use Rattle.formats.specs.Instructions.{instruction_word, word_instruction};
 ghost use Rattle.formats.proofs.Bytes.{bytes_sized, again_from, back_from};
 ghost use Rattle.formats.proofs.Instructions.{word_fits, word_again, word_back};
 ghost use Rattle.std.proofs.Common.{rules};
