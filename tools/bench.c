@@ -7,7 +7,7 @@
  *   cc -O2 tools/bench.c target/staticlib/libpesilyum_hub.a -o /some/where/bench
  *   /some/where/bench [millions of calls]
  *
- * The forms of all bytes are told in docs/10-bench.md.
+ * The forms of all bytes are told in docs/10-play-over-bytes.md.
  */
 #include <stddef.h>
 #include <stdint.h>
