@@ -10,7 +10,7 @@ use model::call::Call;
 // An operand is below this.
 const OPERANDS: usize = 16777216;
 
-// Four bytes that are no call.
+/// Four bytes that are no call.
 #[derive(Clone, Copy, PartialEq, Eq, Debug)]
 pub enum CallFault {
     // the kind is none of 1 to 7
@@ -20,7 +20,7 @@ pub enum CallFault {
 }
 
 impl CallFault {
-    // The number by which the fault is reported.
+    /// The number by which the fault is reported.
     pub fn number(self) -> u8
         ensures { result ≡ fault_number self }
     {
@@ -35,7 +35,7 @@ fn bare(operand: u32, call: Call) -> Result<Call, CallFault>
     (operand == 0).then_some(call).ok_or(CallFault::BadOperand)
 }
 
-// The call that a word spells: the kind in its highest eight bits, the operand in the others.
+/// The call that a word spells: the kind in its highest eight bits, the operand in the others.
 pub fn decode(word: u32) -> Result<Call, CallFault>
     ensures value { result ≡ call_of word }
     ensures back { (c : ModelCall) → result ≡ Ok c → code_of c ≡ Some word }
@@ -59,7 +59,7 @@ fn with_operand(kind: Kind, operand: usize) -> Option<u32>
     (operand < OPERANDS).then(|| kind as u32 * 16777216 + operand as u32)
 }
 
-// The word of a call, or None where its operand does not fit.
+/// The word of a call, or None where its operand does not fit.
 pub fn encode(call: Call) -> Option<u32>
     ensures value { result ≡ code_of call }
     ensures again { (w : ℕ) → result ≡ Some w → call_of w ≡ Ok call }

@@ -12,7 +12,7 @@ use memory::shared::Memory;
 use model::refusal::CheckRefusal;
 use outlet::bytes::ByteOutlet;
 
-// A program or settings that are not accepted.
+/// A program or settings that are not accepted.
 #[derive(Clone, Copy, PartialEq, Eq, Debug)]
 pub enum PlayRefusal {
     Program(ProgramRefusal),
@@ -47,7 +47,7 @@ impl Refusal for PlayRefusal {
 }
 
 impl PlayRefusal {
-    // The place in the program that is refused; settings have none.
+    /// The place in the program that is refused; settings have none.
     pub fn place(self) -> Option<usize>
         ensures { result ≡ play_place self }
     {
@@ -58,8 +58,8 @@ impl PlayRefusal {
     }
 }
 
-// Plays a packed list of calls on a new engine. Memory and sent words are the handed-in bytes themselves.
-// Answers how many calls were played, or the first refusal of program and settings; on a refusal no byte changes.
+/// Plays a packed list of calls on a new engine. Memory and sent words are the handed-in bytes themselves.
+/// Answers how many calls were played, or the first refusal of program and settings; on a refusal no byte changes.
 pub fn play_bytes(
     program: &[u8],
     settings: &[u8],
@@ -100,8 +100,8 @@ fn result_code(res: Result<usize, PlayRefusal>) -> u64
     }
 }
 
-// The same for C, with the answer as one number. Crate pesilyum_hub exports it: one crate is built for Rust or for C, and tests need
-// the one for Rust. Parameters as C hands them in.
+/// The same for C, with the answer as one number. Crate pesilyum_hub exports it: one crate is built for Rust or for C, and tests need
+/// the one for Rust. Parameters as C hands them in.
 pub fn hub_play(
     program: &[u8],
     settings: &[u8],

@@ -25,15 +25,15 @@ fn answer<M: Memory, O: Outlet>(hosted: &mut Hosted<M, O>, word: u32) -> [u8; 8]
     }
 }
 
-// An engine after a packed list of calls, with the host's pass where the host has the token, and how many calls were played.
+/// An engine after a packed list of calls, with the host's pass where the host has the token, and how many calls were played.
 pub struct Played<M: Memory, O: Outlet> {
     pub hosted: Hosted<M, O>,
     pub count: usize,
 }
 
-// Makes an engine and plays the first words of a packed list of calls on it, as many as there is place for whole answers.
-// The bytes past their answers stay. At every point of the run the serial law, the roll-back law and the held-read law
-// hold.
+/// Makes an engine and plays the first words of a packed list of calls on it, as many as there is place for whole answers.
+/// The bytes past their answers stay. At every point of the run the serial law, the roll-back law and the held-read law
+/// hold.
 pub fn play_packed<M: Memory, O: Outlet>(
     settings: Settings<'_>,
     memory: M,

@@ -81,7 +81,7 @@ fn entry<R: Refusal + Drop>(kind: Kind, res: Result<Part, R>) -> [u8; 8]
     }
 }
 
-// The eight bytes of a reply.
+/// The eight bytes of a reply.
 pub fn reply_bytes(reply: Reply) -> [u8; 8]
     ensures { result ≡ reply_bytes reply }
 {
@@ -95,7 +95,7 @@ pub fn reply_bytes(reply: Reply) -> [u8; 8]
     }
 }
 
-// The eight bytes that answer four bytes that are no call.
+/// The eight bytes that answer four bytes that are no call.
 pub fn fault_bytes(fault: CallFault) -> [u8; 8]
     ensures { result ≡ fault_bytes fault }
 {

@@ -8,8 +8,8 @@ use std::marker::Model;
 // More entry places than an engine can have cores.
 const TOO_MANY: usize = 9;
 
-// Lines and entry places. Of more than nine entry places only nine are kept: as many are refused already.
-// A list in fixed memory: reading settings allocates nothing.
+/// Lines and entry places. Of more than nine entry places only nine are kept: as many are refused already.
+/// A list in fixed memory: reading settings allocates nothing.
 #[derive(Drop)]
 pub struct Settings {
     lines: usize,
@@ -26,7 +26,7 @@ impl Model for Settings {
 }
 
 impl Settings {
-    // The settings that the bytes hold: the lines of a core, then the entry places, two bytes each.
+    /// The settings that the bytes hold: the lines of a core, then the entry places, two bytes each.
     pub fn read(bytes: &[u8]) -> Settings
         ensures lines { result.lines ≡ lines_in bytes.now }
         ensures places { result.places ≡ places_in bytes.now }
@@ -46,14 +46,14 @@ impl Settings {
         }
     }
 
-    // How many lines a core has.
+    /// How many lines a core has.
     pub fn lines(&self) -> usize
         ensures { result ≡ self.now.lines }
     {
         self.lines
     }
 
-    // The entry places.
+    /// The entry places.
     pub fn places(&self) -> &[usize]
         ensures { result.now ≡ self.now.places }
     {

@@ -2,8 +2,8 @@
 ghost use Rattle.std.specs.Prelude.{◌≡◌, ℕ, ◌<◌, ◌≤◌, List, Ok, Result};
 ghost use Rattle.formats.specs.Bytes.{AreBytes, bytes_of, spelled};
 
-// An entry whose packed form has BYTES bytes. `packed` is that form, and `unpacked` what some bytes unpack to.
-// Code that packs or unpacks goes by the number that the bytes spell, most significant first.
+/// An entry whose packed form has BYTES bytes. `packed` is that form, and `unpacked` what some bytes unpack to.
+/// Code that packs or unpacks goes by the number that the bytes spell, most significant first.
 pub trait PackedEntry: Sized {
     type Fault;
 
@@ -16,15 +16,15 @@ pub trait PackedEntry: Sized {
 
     ghost unpacked: { List ℕ → Result Self Self.Fault };
 
-    // BYTES, for generic code: there each reading of a trait's constant counts as another number, and no clause can name it.
+    /// BYTES, for generic code: there each reading of a trait's constant counts as another number, and no clause can name it.
     fn size() -> usize
         ensures { result ≡ width };
 
-    // The packed form, as the number that its bytes spell.
+    /// The packed form, as the number that its bytes spell.
     fn pack(self) -> u64
         ensures { result ≡ spelled (packed self) };
 
-    // What the lowest BYTES bytes of a number unpack to.
+    /// What the lowest BYTES bytes of a number unpack to.
     fn unpack(code: u64) -> Result<Self, Self::Fault>
         ensures { result ≡ unpacked (bytes_of width code) };
 

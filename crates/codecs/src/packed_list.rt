@@ -9,7 +9,7 @@ use std::ops::Range;
 
 mod code;
 
-// How many whole entries the bytes hold. Bytes past the last whole entry are spare.
+/// How many whole entries the bytes hold. Bytes past the last whole entry are spare.
 pub fn count<E: PackedEntry>(bytes: &[u8]) -> usize
     ensures { result ≡ entry_count E.width bytes.now }
 {
@@ -30,7 +30,7 @@ fn span<E: PackedEntry>(len: usize, place: usize) -> Option<Range<usize>>
     }
 }
 
-// The entry at a place, or why there is none.
+/// The entry at a place, or why there is none.
 pub fn get<E: PackedEntry>(bytes: &[u8], place: usize) -> Result<E, ListRefusal<E::Fault>>
     ensures { result ≡ entry_at E.width E.unpacked bytes.now place }
 {
@@ -41,7 +41,7 @@ pub fn get<E: PackedEntry>(bytes: &[u8], place: usize) -> Result<E, ListRefusal<
     Ok(at_place(E::unpack(code), place)?)
 }
 
-// Puts an entry at a place. Every other byte stays, and all do where the place is outside.
+/// Puts an entry at a place. Every other byte stays, and all do where the place is outside.
 pub fn put<E: PackedEntry + Drop>(
     bytes: &mut [u8],
     place: usize,

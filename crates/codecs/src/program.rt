@@ -6,8 +6,8 @@ use std::marker::Model;
 mod access;
 mod reader;
 
-// One to 512 instructions whose jumps lead to one of them, and whose last is HALT or JUMP. Seen as the list of them.
-// An array with a count: nothing is allocated, and a program is copied into each engine.
+/// One to 512 instructions whose jumps lead to one of them, and whose last is HALT or JUMP. Seen as the list of them.
+/// An array with a count: nothing is allocated, and a program is copied into each engine.
 #[derive(Clone, Copy, PartialEq, Eq, Debug)]
 pub struct Program {
     instructions: [Instruction; MOST_INSTRUCTIONS],

@@ -10,8 +10,9 @@ use model::line::Line;
 use model::refusal::TagsRefusal;
 use std::marker::Model;
 
+// The lines, in fixed memory.
 #[derive(Drop)]
-pub struct Buffer {
+pub(crate) struct Buffer {
     lines: ArrayVec<Line, MOST_LINES>,
 }
 

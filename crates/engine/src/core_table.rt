@@ -14,7 +14,7 @@ use formats::below::CoreNumber;
 use formats::bounds::MOST_CORES;
 use std::marker::Model;
 
-// At most eight cores.
+/// At most eight cores.
 #[derive(Drop)]
 pub struct CoreTable {
     cores: ArrayVec<Core, MOST_CORES>,

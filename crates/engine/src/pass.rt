@@ -1,6 +1,6 @@
 // The host's pass: given out by hold, shown to read, spent by give back.
 
-// A pass is neither copied nor dropped: code that lets one go does not build, nor code that gives one back twice.
+/// A pass is neither copied nor dropped: code that lets one go does not build, nor code that gives one back twice.
 pub struct Pass {
     sealed: (),
 }

@@ -2,7 +2,7 @@
 ghost use Rattle.std.specs.Prelude.{◌≡◌};
 ghost use Rattle.formats.specs.Answers.{fault_number, answer_number};
 
-// Why a core was stopped at an instruction, with its number.
+/// Why a core was stopped at an instruction, with its number.
 #[derive(Clone, Copy, PartialEq, Eq, Debug)]
 pub enum Fault {
     // the address lies outside the memory
@@ -20,7 +20,7 @@ pub enum Fault {
 }
 
 impl Fault {
-    // The number by which the fault is reported.
+    /// The number by which the fault is reported.
     pub fn number(self) -> u8
         ensures { result ≡ fault_number self }
     {
@@ -28,7 +28,7 @@ impl Fault {
     }
 }
 
-// What a step, or a turn, that was not refused answers.
+/// What a step, or a turn, that was not refused answers.
 #[derive(Clone, Copy, PartialEq, Eq, Debug)]
 pub enum Answer {
     Running,
@@ -44,7 +44,7 @@ pub enum Answer {
 }
 
 impl Answer {
-    // The number by which the answer is reported. A match: a case that carries values has no number of its own.
+    /// The number by which the answer is reported. A match: a case that carries values has no number of its own.
     pub fn number(self) -> u8
         ensures { result ≡ answer_number self }
     {

@@ -3,7 +3,7 @@ ghost use Rattle.std.specs.Prelude.{◌<◌};
 
 use crate::below::{Channel, CoreNumber, UnitCount};
 
-// How a unit of a core ended.
+/// How a unit of a core ended.
 #[derive(Clone, Copy, PartialEq, Eq, Debug)]
 pub enum Mark {
     // it was performed whole
@@ -14,7 +14,7 @@ pub enum Mark {
     Kept,
 }
 
-// An entry of the record: which core finished a unit, how, and how many instructions it performed.
+/// An entry of the record: which core finished a unit, how, and how many instructions it performed.
 #[derive(Clone, Copy, PartialEq, Eq, Debug)]
 pub struct RecordEntry {
     pub core: CoreNumber,
@@ -38,7 +38,7 @@ impl Default for RecordEntry {
     }
 }
 
-// An entry of the outlet: a word sent on a channel.
+/// An entry of the outlet: a word sent on a channel.
 #[derive(Clone, Copy, PartialEq, Eq, Debug)]
 pub struct SentEntry {
     pub channel: Channel,

@@ -2,7 +2,7 @@
 use crate::below::{Channel, Immediate};
 use crate::register::Register;
 
-// One instruction. The fields `d`, `a` and `b` name registers, and `n` is the number that stands in the instruction.
+/// One instruction. The fields `d`, `a` and `b` name registers, and `n` is the number that stands in the instruction.
 #[derive(Clone, Copy, PartialEq, Eq, Debug)]
 pub enum Instruction {
     Halt,
@@ -57,7 +57,7 @@ pub enum Instruction {
     },
 }
 
-// The five fields of an instruction's word.
+/// The five fields of an instruction's word.
 #[derive(Clone, Copy, PartialEq, Eq, Debug)]
 pub struct Fields {
     pub opcode: u32,

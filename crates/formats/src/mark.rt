@@ -6,7 +6,7 @@ use crate::entry::Mark;
 use crate::refusal::EntryFault;
 
 impl Mark {
-    // 0 to 2.
+    /// 0 to 2.
     pub fn number(self) -> u8
         ensures { result ≡ mark_number self }
     {

@@ -12,7 +12,7 @@ const ENTRY_WAITS: u8 = 15;
 
 const INSIDE_LIST: u8 = 16;
 
-// A refusal has the number of its question.
+/// A refusal has the number of its question.
 pub trait Refusal {
     ghost number: { Self → ℕ };
 
@@ -20,7 +20,7 @@ pub trait Refusal {
         ensures { result ≡ number self.now };
 }
 
-// An instruction that does not unpack.
+/// An instruction that does not unpack.
 #[derive(Clone, Copy, PartialEq, Eq, Debug)]
 pub enum InstructionFault {
     // the opcode is none of 0 to 14
@@ -29,14 +29,14 @@ pub enum InstructionFault {
     BadField = 3,
 }
 
-// A record entry that does not unpack.
+/// A record entry that does not unpack.
 #[derive(Clone, Copy, PartialEq, Eq, Debug)]
 pub enum EntryFault {
     // mark above 2, a spare bit set, or a count above 4,096
     OutOfRange = 18,
 }
 
-// A program that is not accepted.
+/// A program that is not accepted.
 #[derive(Clone, Copy, PartialEq, Eq, Debug)]
 pub enum ProgramFault {
     // the byte count is no multiple of 4 from 4 to 2,048
@@ -49,14 +49,14 @@ pub enum ProgramFault {
     NoEnd,
 }
 
-// A fault with the place of the entry that has it, counted from 0.
+/// A fault with the place of the entry that has it, counted from 0.
 #[derive(Clone, Copy, PartialEq, Eq, Debug)]
 pub struct Placed<F> {
     pub fault: F,
     pub place: usize,
 }
 
-// A place of a packed list that has no entry, or whose bytes do not unpack.
+/// A place of a packed list that has no entry, or whose bytes do not unpack.
 #[derive(Clone, Copy, PartialEq, Eq, Debug)]
 pub enum ListRefusal<F> {
     // the place is not inside the bytes
@@ -65,22 +65,22 @@ pub enum ListRefusal<F> {
     Entry(Placed<F>),
 }
 
-// The place is not inside the bytes of a packed list.
+/// The place is not inside the bytes of a packed list.
 #[derive(Clone, Copy, PartialEq, Eq, Debug)]
 pub struct OutsideList;
 
-// A program that is not accepted, at the instruction that says so.
+/// A program that is not accepted, at the instruction that says so.
 pub type ProgramRefusal = Placed<ProgramFault>;
 
-// The address is not below the memory's length.
+/// The address is not below the memory's length.
 #[derive(Clone, Copy, PartialEq, Eq, Debug)]
 pub struct OutsideMemory;
 
-// No entry waits in the outlet.
+/// No entry waits in the outlet.
 #[derive(Clone, Copy, PartialEq, Eq, Debug)]
 pub struct NothingWaits;
 
-// The outlet has no room.
+/// The outlet has no room.
 #[derive(Clone, Copy, PartialEq, Eq, Debug)]
 pub struct NoRoom;
 
@@ -114,7 +114,7 @@ impl Refusal for ProgramFault {
     }
 }
 
-// The fault of an entry, at its place.
+/// The fault of an entry, at its place.
 pub fn at_place<T, F>(res: Result<T, F>, place: usize) -> Result<T, Placed<F>>
     ensures { result ≡ placed_fault place res }
 {

@@ -2,7 +2,7 @@
 ghost use Rattle.std.specs.Prelude.{◌≡◌};
 ghost use Rattle.formats.specs.Registers.{register_number};
 
-// One of the eight registers of a core.
+/// One of the eight registers of a core.
 #[derive(Clone, Copy, PartialEq, Eq, Debug)]
 pub enum Register {
     R0,
@@ -16,7 +16,7 @@ pub enum Register {
 }
 
 impl Register {
-    // 0 to 7.
+    /// 0 to 7.
     pub fn number(self) -> u8
         ensures { result ≡ register_number self }
     {

@@ -7,14 +7,14 @@ ghost use Rattle.memory.specs.Bytes.{memory_in, bytes_backing, bytes_written};
 use crate::shared::{MOST_WORDS, Memory};
 use formats::refusal::OutsideMemory;
 
-// The first 65,536 whole words in `bytes` are the memory; the bytes past them are never touched.
+/// The first 65,536 whole words in `bytes` are the memory; the bytes past them are never touched.
 #[derive(Drop)]
 pub struct ByteMemory<'a> {
     bytes: &'a mut [u8],
 }
 
 impl<'a> ByteMemory<'a> {
-    // The memory over the bytes handed in, which it leaves as they are.
+    /// The memory over the bytes handed in, which it leaves as they are.
     pub fn new(bytes: &'a mut [u8]) -> ByteMemory<'a>
         ensures holds { result.bytes.ghost_name ≡ bytes.entry.ghost_name }
         ensures value { result.bytes.now ≡ bytes.old }

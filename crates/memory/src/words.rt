@@ -6,14 +6,14 @@ ghost use Rattle.memory.specs.Words.{memory_of, words_backing, all_written};
 use crate::shared::{MOST_WORDS, Memory};
 use formats::refusal::OutsideMemory;
 
-// The first 65,536 words of `all` are the memory; those past them are never touched.
+/// The first 65,536 words of `all` are the memory; those past them are never touched.
 #[derive(Drop)]
 pub struct WordMemory<'a> {
     all: &'a mut [u32],
 }
 
 impl<'a> WordMemory<'a> {
-    // The memory over the words handed in, which it leaves as they are.
+    /// The memory over the words handed in, which it leaves as they are.
     pub fn new(all: &'a mut [u32]) -> WordMemory<'a>
         ensures holds { result.all.ghost_name ≡ all.entry.ghost_name }
         ensures value { result.all.now ≡ all.old }

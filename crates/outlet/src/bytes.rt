@@ -11,7 +11,7 @@ use crate::waiting::Outlet;
 use formats::entry::SentEntry;
 use formats::refusal::{NoRoom, NothingWaits};
 
-// Each whole five bytes are a slot for an entry; the bytes past the last slot are never touched.
+/// Each whole five bytes are a slot for an entry; the bytes past the last slot are never touched.
 #[derive(Drop)]
 pub struct ByteOutlet<'a> {
     bytes: &'a mut [u8],
@@ -20,7 +20,7 @@ pub struct ByteOutlet<'a> {
 }
 
 impl<'a> ByteOutlet<'a> {
-    // The empty outlet over the bytes handed in, which it leaves as they are.
+    /// The empty outlet over the bytes handed in, which it leaves as they are.
     pub fn new(bytes: &'a mut [u8]) -> ByteOutlet<'a>
         ensures holds { result.bytes.ghost_name ≡ bytes.entry.ghost_name }
         ensures value { result.bytes.now ≡ bytes.old }

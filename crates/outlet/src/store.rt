@@ -8,10 +8,10 @@ use crate::waiting::Outlet;
 use formats::entry::SentEntry;
 use formats::refusal::{NoRoom, NothingWaits};
 
-// How many entries the store has room for.
+/// How many entries the store has room for.
 pub const PLACES: usize = 64;
 
-// A fixed array: the store allocates nothing.
+/// A fixed array: the store allocates nothing.
 #[derive(Drop)]
 pub struct StoreOutlet {
     entries: [SentEntry; PLACES],
@@ -21,7 +21,7 @@ pub struct StoreOutlet {
 }
 
 impl StoreOutlet {
-    // An empty store.
+    /// An empty store.
     pub fn new() -> StoreOutlet
         ensures waiting { in_ring result.entries result.ring ≡ [] }
         ensures room { room_in result.ring ≡ 64 }

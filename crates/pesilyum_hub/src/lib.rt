@@ -6,7 +6,7 @@ ghost use Rattle.calls.specs.Export.{accepted, play_result, answers_after, Lawfu
 
 use calls::export;
 
-// Plays a packed list of calls on a new engine, and answers how many were played, or the first refusal, as one number.
+/// Plays a packed list of calls on a new engine, and answers how many were played, or the first refusal, as one number.
 #[unsafe(no_mangle)]
 pub extern "C" fn hub_play(
     program: &[u8],

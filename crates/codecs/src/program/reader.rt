@@ -51,7 +51,7 @@ fn instruction_at(count: usize, bytes: &[u8], place: usize) -> Result<Instructio
 }
 
 impl Program {
-    // The program that the bytes hold, or the first refusal with the number of its instruction.
+    /// The program that the bytes hold, or the first refusal with the number of its instruction.
     pub fn read(bytes: &[u8]) -> Result<Program, ProgramRefusal>
         ensures { result ≡ read_program bytes.now }
     {
