@@ -2,28 +2,26 @@
 --   engine_after  the engine after a command
 --   CommandReply  the text; only the order of tags is left free
 -- Assumes nothing.
-use Rattle.std.specs.Prelude.{◌≡◌, ℕ, ◌+◌, ◌*◌, List, ◌++◌, take, replicate, Ok, Err, codes, decimal, Result}
+use Rattle.std.specs.Prelude.{◌≡◌, ℕ, List, ◌++◌, take, replicate, Ok, Err, codes, decimal, Result}
 use Rattle.formats.specs.declared.refusal.NothingWaits.{NothingWaits}
 use Rattle.formats.specs.Refusals.{nothing_waits_number}
 use Rattle.formats.specs.declared.entry.SentEntry.{SentEntry}
-use Rattle.formats.specs.Bytes.{bytes_of}
-use Rattle.formats.specs.Records.{mark_number}
+use Rattle.formats.specs.declared.entry.RecordEntry.{RecordEntry}
 use Rattle.model.specs.declared.refusal.ReadRefusal.{ReadRefusal}
 use Rattle.model.specs.declared.refusal.RecordRefusal.{RecordRefusal}
 use Rattle.model.specs.declared.refusal.TagsRefusal.{TagsRefusal}
 use Rattle.model.specs.declared.call.Reply.{Reply}
 use Rattle.model.specs.declared.call.Reply.TheVariants.{Stepped, Cleared, Held, Word, GivenBack, Taken}
 use Rattle.model.specs.Refusals.{hold_number, give_back_number, read_number, clear_number, record_number, tags_number}
-use Rattle.model.specs.OneAtATime.{Turn}
 use Rattle.model.specs.Engine.{Engine}
-use Rattle.model.specs.Calls.{entry, Tags, status, holder}
+use Rattle.model.specs.Calls.{record_at, Tags, status, holder}
 use Rattle.model.specs.Runs.{reply, played}
 use Rattle.text.specs.Machines.{token_text}
-use Rattle.text.specs.Digits.{hex_text, refused_text}
+use Rattle.text.specs.Digits.{refused_text}
 use Rattle.text.specs.Texts.{sent_text}
 use Rattle.console.specs.declared.machine.EngineCommand.{EngineCommand}
 use Rattle.console.specs.declared.machine.EngineCommand.TheVariants.{Call, Moves, Record, Tags as TagsOf, Core, Token}
-use Rattle.console.specs.ReplyTexts.{moved_reply, status_reply, spaced_text}
+use Rattle.console.specs.ReplyTexts.{entry_reply, moved_reply, status_reply, spaced_text}
 use Rattle.console.specs.Repeated.{repeated, repeated_reply}
 
 -- a call that answers nothing but that it was done, by the number of its refusal and the word for done
@@ -41,19 +39,10 @@ abbrev pub taken_reply : Result SentEntry NothingWaits → List ℕ
 taken_reply (Ok x) = sent_text x
 taken_reply (Err r) = refused_text (nothing_waits_number r)
 
--- a turn as the word of its record entry: core 3 bits, mark 2, zero 11, count 16
-abbrev pub turn_word : Turn → ℕ
-turn_word t = t.core * 536870912 + mark_number t.mark * 134217728 + t.count
-
--- a turn: its core, mark and count, and its packed form
-abbrev pub turn_text : Turn → List ℕ
-turn_text t =
-    (codes "core " ++ (decimal t.core ++ (codes " mark " ++ (decimal (mark_number t.mark) ++ (codes " count " ++ decimal t.count))))) ++ (codes " = 0x" ++ hex_text (bytes_of 4 (turn_word t)))
-
 -- an entry of the record
-abbrev pub turn_reply : Result Turn RecordRefusal → List ℕ
-turn_reply (Ok t) = turn_text t
-turn_reply (Err r) = refused_text (record_number r)
+abbrev pub recorded_reply : Result RecordEntry RecordRefusal → List ℕ
+recorded_reply (Ok x) = entry_reply x
+recorded_reply (Err r) = refused_text (record_number r)
 
 -- what a call answered
 abbrev pub reply_text : Reply → List ℕ
@@ -80,7 +69,7 @@ pub record TagsReply (e : Engine) (core places : ℕ) (text : List ℕ) : Type 0
 abbrev pub CommandReply : Engine → EngineCommand → List ℕ → Type 0
 CommandReply e (Call c) text = text ≡ reply_text (reply e c)
 CommandReply e (Moves m times) text = text ≡ repeated_reply (repeated e m times).answer
-CommandReply e (Record place) text = text ≡ turn_reply (entry e place)
+CommandReply e (Record place) text = text ≡ recorded_reply (record_at e place)
 CommandReply e (TagsOf core places) text = TagsReply e core places text
 CommandReply e (Core core) text = text ≡ status_reply (status e core)
 CommandReply e Token text = text ≡ token_text (holder e)

@@ -1,7 +1,6 @@
 // What an engine answers to the console's commands, over any memory and any outlet.
 ghost use Rattle.std.specs.Prelude.{◌≡◌, Some, Ok, IfOk, string_bytes};
-ghost use Rattle.cores.specs.Records.{as_turn};
-ghost use Rattle.console.specs.Replies.{done_reply, word_reply, turn_reply, reply_text, TagsReply, CommandReply, engine_after};
+ghost use Rattle.console.specs.Replies.{done_reply, word_reply, recorded_reply, reply_text, TagsReply, CommandReply, engine_after};
 
 use crate::machine::EngineCommand;
 use crate::moves::{repeat, repeated_reply};
@@ -60,7 +59,7 @@ fn recorded_reply(
     heap: Global,
     answer: Result<RecordEntry, RecordRefusal>,
 ) -> Result<String, AllocError>
-    ensures { IfOk result (λ s. string_bytes s ≡ turn_reply (as_turn answer)) }
+    ensures { IfOk result (λ s. string_bytes s ≡ recorded_reply answer) }
 {
     result_text(heap, answer.map(Packed))
 }
