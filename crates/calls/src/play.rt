@@ -9,7 +9,7 @@ ghost use Rattle.calls.specs.Playing.{answered, after, calls_in, words_played, a
 
 use crate::call::decode;
 use crate::reply::{fault_bytes, reply_bytes};
-use engine::hosted::Hosted;
+use engine::engine::Hosted;
 use engine::settings::Settings;
 use memory::shared::Memory;
 use outlet::waiting::Outlet;

@@ -4,7 +4,7 @@ ghost use Rattle.console.specs.Repeated.{moved, repeated, repeated_reply};
 
 use crate::machine::Move;
 use crate::reply_texts::moved_reply;
-use engine::hosted::Hosted;
+use engine::engine::Hosted;
 use formats::answer::Answer;
 use memory::shared::Memory;
 use model::refusal::StepRefusal;

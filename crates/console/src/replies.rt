@@ -6,7 +6,7 @@ use crate::machine::EngineCommand;
 use crate::moves::{repeat, repeated_reply};
 use crate::packed_form::Packed;
 use crate::reply_texts::{moved_reply, refused_text, result_text, spaced, status_reply};
-use engine::hosted::Hosted;
+use engine::engine::Hosted;
 use formats::entry::{RecordEntry, SentEntry};
 use formats::refusal::{NothingWaits, Refusal};
 use memory::shared::Memory;

@@ -1,16 +1,17 @@
 -- How far a core's pc and count go in each state.
 -- Assumes nothing.
-use Rattle.std.specs.Prelude.{ℕ}
+use Rattle.std.specs.Prelude.{ℕ, ◌-◌}
+use Rattle.formats.specs.declared.bounds.TheConstants.{MOST_INSTRUCTIONS, MOST_PERFORMED}
 use Rattle.model.specs.declared.state.State.{State}
 use Rattle.model.specs.declared.state.State.TheVariants.{Commit, Stopped}
 
 -- a core that goes on stands at one of 512 instructions; in COMMIT, at an END, which has a next one; HALT moves past itself
 abbrev pub pc_most : State → ℕ
-pc_most Commit = 510
-pc_most Stopped = 512
-pc_most _ = 511
+pc_most Commit = MOST_INSTRUCTIONS - 2
+pc_most Stopped = MOST_INSTRUCTIONS
+pc_most _ = MOST_INSTRUCTIONS - 1
 
 -- a block performs at most 4,096 instructions; in COMMIT, END is still to be performed
 abbrev pub count_most : State → ℕ
-count_most Commit = 4095
-count_most _ = 4096
+count_most Commit = MOST_PERFORMED - 1
+count_most _ = MOST_PERFORMED

@@ -2,6 +2,7 @@
 --   Onward       by what it asks for;  OnwardInBlock  by what it comes to inside a block
 -- Assumes nothing.
 use Rattle.std.specs.Prelude.{◌≡◌, ℕ, ◌<◌, ◌≤◌, Bool, false, Ok, Err}
+use Rattle.formats.specs.declared.bounds.TheConstants.{MOST_PERFORMED}
 use Rattle.model.specs.declared.action.Operation.{Operation}
 use Rattle.model.specs.declared.action.Operation.TheVariants.{Jumps}
 use Rattle.model.specs.declared.action.Action.{Action}
@@ -23,5 +24,5 @@ Onward pc _ = pc < 511
 -- the same inside a block, which performs fewer than 4,096 instructions, and whose operations find their words; a fault leads nowhere
 abbrev pub OnwardInBlock : (pc count words : ℕ) → Decision → Type 0
 OnwardInBlock pc count words (Err f) = Unit {0}
-OnwardInBlock pc count words (Ok (Continues o)) = (count < 4096) × OnwardBy pc o × (outside words o ≡ false)
-OnwardInBlock pc count words (Ok _) = (count < 4096) × (pc < 511)
+OnwardInBlock pc count words (Ok (Continues o)) = (count < MOST_PERFORMED) × OnwardBy pc o × (outside words o ≡ false)
+OnwardInBlock pc count words (Ok _) = (count < MOST_PERFORMED) × (pc < 511)

@@ -42,7 +42,7 @@ impl Buffer {
     // The lines, oldest first.
     fn lines(&self) -> &[Line]
         ensures value { result.now ≡ self.now }
-        ensures few { length self.now ≤ 32 }
+        ensures few { length self.now ≤ MOST_LINES }
         ensures apart { Distinct self.now }
     {
         self.lines.as_slice()
@@ -73,7 +73,7 @@ impl Buffer {
     // Makes one more line, at an address that has none.
     #[tactic(auto, using(crate::proofs::Buffers::distinct_push))]
     pub(crate) fn push(&mut self, line: Line)
-        requires room { length self.old < 32 }
+        requires room { length self.old < MOST_LINES }
         requires fresh { has_line self.old line.address ≡ false }
         ensures { self.new ≡ self.old ++ line ∷ [] }
     {

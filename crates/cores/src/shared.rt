@@ -13,7 +13,7 @@ use crate::instructions::{pass, set};
 use crate::record::Record;
 use codecs::program::Program;
 use formats::below::{CoreNumber, UnitCount};
-use formats::bounds::MOST_ENTRIES;
+use formats::bounds::{MOST_ENTRIES, MOST_PERFORMED};
 use formats::entry::{Mark, RecordEntry, SentEntry};
 use memory::shared::Memory;
 use model::action::Operation;
@@ -36,6 +36,7 @@ pub struct Shared<M: Memory, O: Outlet> {
 
 impl<M: Memory, O: Outlet> Model for Shared<M, O> {
     ghost use Rattle.std.specs.Prelude.{◌≤◌};
+    ghost use Rattle.formats.specs.declared.bounds.TheConstants.{MOST_LINES};
     ghost use Rattle.model.specs.Cores.{Shared as ModelShared};
 
     ghost Value = { ModelShared };
@@ -44,7 +45,7 @@ impl<M: Memory, O: Outlet> Model for Shared<M, O> {
 
     ghost view = { shared_of M.Memory O.Outlet };
 
-    ghost invariant = { λ s. s.capacity ≤ 32 };
+    ghost invariant = { λ s. s.capacity ≤ MOST_LINES };
 }
 
 // How many free entries of the record a step of a core asks for: two if another core has the token.
@@ -59,7 +60,7 @@ fn wanted(token: Token, me: usize) -> usize
 
 // An entry of the record.
 fn entry_of(me: CoreNumber, mark: Mark, count: u32) -> RecordEntry
-    requires { count ≤ 4096 }
+    requires { count ≤ MOST_PERFORMED }
     ensures { result ≡ entry me.value mark count }
 {
     RecordEntry {
@@ -117,7 +118,7 @@ impl<M: Memory, O: Outlet> Shared<M, O> {
     // A core finishes a unit: the record gets an entry, and the token is free if the core had it.
     pub(crate) fn finish(&mut self, me: CoreNumber, mark: Mark, count: u32)
         requires room { length self.old.entries < MOST_ENTRIES }
-        requires count { count ≤ 4096 }
+        requires count { count ≤ MOST_PERFORMED }
         ensures { let entries = self.old.entries ++ (entry me.value mark count ∷ []) in
             self.new ≡ record self.old { token = freed self.old.token me.value; entries = entries } }
     {

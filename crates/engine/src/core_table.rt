@@ -11,7 +11,7 @@ ghost use Rattle.engine.specs.Lending.{LendsCore};
 use arrayvec::ArrayVec;
 use cores::state_machine::Core;
 use formats::below::CoreNumber;
-use formats::bounds::MOST_CORES;
+use formats::bounds::{MOST_CORES, MOST_INSTRUCTIONS};
 use std::marker::Model;
 
 /// At most eight cores.
@@ -42,8 +42,8 @@ impl CoreTable {
 
     // A new core at each of some entry places.
     pub(crate) fn new(places: &[usize]) -> CoreTable
-        requires few { length places.now ≤ 8 }
-        requires low { all_below places.now 512 ≡ true }
+        requires few { length places.now ≤ MOST_CORES }
+        requires low { all_below places.now MOST_INSTRUCTIONS ≡ true }
         ensures { result ≡ map new_core places.now }
     {
         let mut cores = ArrayVec::new();
@@ -56,7 +56,7 @@ impl CoreTable {
     // How many cores there are, at most 8.
     pub(crate) fn len(&self) -> usize
         ensures value { result ≡ length self.now }
-        ensures few { result ≤ 8 }
+        ensures few { result ≤ MOST_CORES }
     {
         self.cores.len()
     }
@@ -76,7 +76,7 @@ impl CoreTable {
     pub(crate) fn get(&self, i: usize) -> Option<&Core>
         ensures value { option_copied result ≡ slice_get self.now i }
         ensures item { IsItemAt self.now i result }
-        ensures few { length self.now ≤ 8 }
+        ensures few { length self.now ≤ MOST_CORES }
     {
         self.cores.as_slice().get(i)
     }

@@ -4,7 +4,6 @@
 
 mod core_table;
 pub mod engine;
-pub mod hosted;
 pub mod pass;
 pub mod play;
 pub mod settings;

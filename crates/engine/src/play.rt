@@ -7,7 +7,7 @@ ghost use Rattle.model.specs.Laws.{Lawful};
 ghost use Rattle.cores.specs.Shareds.{outlet_of};
 ghost use Rattle.engine.specs.Engines.{playable};
 
-use crate::hosted::Hosted;
+use crate::engine::Hosted;
 use crate::settings::Settings;
 use memory::shared::Memory;
 use model::call::{Call, Reply};

@@ -3,7 +3,7 @@ ghost use Rattle.std.specs.Prelude.{◌≡◌, ◌≤◌, true, length, OnOk};
 ghost use Rattle.model.specs.Engine.{all_below, check};
 
 use codecs::program::Program;
-use formats::bounds::{MOST_CORES, MOST_ENGINE_WORDS, MOST_LINES};
+use formats::bounds::{MOST_CORES, MOST_ENGINE_WORDS, MOST_INSTRUCTIONS, MOST_LINES};
 use model::refusal::CheckRefusal;
 use std::marker::Model;
 
@@ -35,8 +35,8 @@ impl Settings<'_> {
     /// The first refusal, with a memory of so many words.
     pub fn check(&self, words: usize) -> Result<(), CheckRefusal>
         ensures answer { result ≡ check self.now words }
-        ensures few { OnOk result (length self.now.places ≤ 8) }
-        ensures low { OnOk result (all_below self.now.places 512 ≡ true) }
+        ensures few { OnOk result (length self.now.places ≤ MOST_CORES) }
+        ensures low { OnOk result (all_below self.now.places MOST_INSTRUCTIONS ≡ true) }
     {
         if !(1..=MOST_CORES).contains(&self.places.len()) {
             return Err(CheckRefusal::CoreCount);

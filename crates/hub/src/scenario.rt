@@ -6,7 +6,7 @@ use console::machine::EngineCommand;
 use console::reason::Reason;
 use console::replies::command_reply;
 use console::reply_texts::made_reply;
-use engine::hosted::Hosted;
+use engine::engine::Hosted;
 use engine::settings::Settings;
 use memory::bytes::ByteMemory;
 use memory::shared::Memory;

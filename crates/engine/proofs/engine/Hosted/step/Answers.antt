@@ -2,7 +2,7 @@ use Rattle.std.proofs.Common.{◌≡◌, sym, ap, ◌∙◌}
 use Rattle.model.specs.Engine.{Engine}
 use Rattle.engine.specs.Engines.{host_has}
 use Rattle.engine.proofs.Hosts.{step_host}
-use Rattle.engine.proofs.hosted.Hosted.step.Goals as goal
+use Rattle.engine.proofs.engine.Hosted.step.Goals as goal
 
 pub invariant_of-self : goal.invariant_of-self
 invariant_of-self g c =
