@@ -3,8 +3,8 @@
 use Rattle.std.proofs.Common.{◌≡◌, ℕ, zero, suc, ◌<◌, ◌≤◌, eqb, List, [], ◌∷◌, length, drop, Some, None, Option, sym, refl, ap, ◌∙◌, inl, inr, arith, length-drop, false-eqb}
 use Rattle.std.specs.List.{prefix_len}
 use Rattle.std.proofs.lemmas.Bool.{cases_Bool}
-use Rattle.text.specs.declared.stretch.Class.TheVariants.{Blank, Solid}
-use Rattle.text.specs.Lines.{in_class, from_token, cut, next_token}
+use Rattle.text.specs.declared.class.Class.TheVariants.{Blank, NotBlank}
+use Rattle.text.specs.Lines.{in_class, from_token, split, next_token}
 use Rattle.text.proofs.Tokens.{begins}
 use Rattle.console.specs.Words.{listed, words_up_to, words_of}
 
@@ -17,11 +17,11 @@ after_less text p e =
           let z : ◌≡◌ {A = ℕ} 0 1 = cc in
           absurd (omega arith)
       | inr f ↦
-          let some : next_token text ≡ Some (cut (from_token text)) = rw f in
-          let same : p ≡ cut (from_token text) = cc in
-          let long : length p.1 ≡ length (drop (prefix_len (in_class Solid) (from_token text)) (from_token text)) = ap (λ q. length q.1) same in
+          let some : next_token text ≡ Some (split (from_token text)) = rw f in
+          let same : p ≡ split (from_token text) = cc in
+          let long : length p.1 ≡ length (drop (prefix_len (in_class NotBlank) (from_token text)) (from_token text)) = ap (λ q. length q.1) same in
           let more : 0 < length (from_token text) = omega (arith, false-eqb _ 0 (sym f)) in
-          omega (arith, begins (in_class Blank) text more, length-drop (prefix_len (in_class Blank) text) text, length-drop (prefix_len (in_class Solid) (from_token text)) (from_token text))
+          omega (arith, begins (in_class Blank) text more, length-drop (prefix_len (in_class Blank) text) text, length-drop (prefix_len (in_class NotBlank) (from_token text)) (from_token text))
     ]
 
 none_at : (n : ℕ) → words_up_to n [] ≡ []
