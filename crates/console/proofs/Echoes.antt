@@ -1,35 +1,20 @@
--- The tokens of a text, one after another.
+-- The words of a text, written one after another.
 -- Assumes nothing.
-use Rattle.std.proofs.Common.{◌≡◌, ℕ, zero, suc, ◌<◌, ◌≤◌, List, [], ◌∷◌, ◌++◌, length, Some, None, sym, refl, ap, ◌∙◌, append_assoc, arith}
-use Rattle.std.proofs.lemmas.List.{append-nil}
+use Rattle.std.proofs.Common.{◌≡◌, ℕ, List, [], ◌∷◌, ◌++◌, Some, None, sym, ap, ◌∙◌, append_assoc, append-nil}
 use Rattle.text.specs.Lines.{next_token}
-use Rattle.console.specs.Printed.{ahead, first_tokens, echo, echoed}
+use Rattle.console.specs.Words.{words_of}
+use Rattle.console.specs.Printed.{echo, echoed}
+use Rattle.console.proofs.Left.{no_word, one_word}
 
--- a blank text has no token
-blank : (k : ℕ) (text : List ℕ) → next_token text ≡ None → first_tokens k text ≡ []
-unfolding first_tokens
-blank zero text e = refl
-blank (suc k) text e = ap (λ o. ahead o (first_tokens k)) e
+-- one word more is written
+pub echoed_more : (out out' text word rest all : List ℕ) → Some (word, rest) ≡ next_token text → out' ≡ (out ++ word) ++ (32 ∷ []) → out ++ echoed (words_of text) ≡ all → out' ++ echoed (words_of rest) ≡ all
+echoed_more out out' text word rest all next written is =
+    ap (λ (l : List ℕ). l ++ echoed (words_of rest)) (written ∙ append_assoc out word (32 ∷ []))
+    ∙ append_assoc out (echo word) (echoed (words_of rest))
+    ∙ ap (λ (ws : List (List ℕ)). out ++ echoed ws) (sym (one_word text (word, rest) next))
+    ∙ is
 
-first : (k : ℕ) (text token rest : List ℕ) → next_token text ≡ Some (token, rest) → first_tokens (suc k) text ≡ token ∷ first_tokens k rest
-unfolding first_tokens
-first k text token rest e = ap (λ o. ahead o (first_tokens k)) e
-
--- what is written so far and the tokens that are left are all that is to be written
-abbrev pub Sofar : List ℕ → List ℕ → List ℕ → Type 0
-Sofar out rest all = (k : ℕ) × (length rest ≤ k) × (out ++ echoed (first_tokens k rest) ≡ all)
-
-pub sofar_more : (out out' text token rest all : List ℕ) → next_token text ≡ Some (token, rest) → length rest < length text → out' ≡ (out ++ token) ++ (32 ∷ []) → Sofar out text all → Sofar out' rest all
-sofar_more out out' text token rest all next less written (zero, few, is) = absurd (omega arith)
-sofar_more out out' text token rest all next less written (suc k, few, is) = (
-  k,
-  omega arith,
-  ap (λ (l : List ℕ). l ++ echoed (first_tokens k rest)) (written ∙ append_assoc out token (32 ∷ []))
-      ∙ append_assoc out (echo token) (echoed (first_tokens k rest))
-      ∙ ap (λ (l : List (List ℕ)). out ++ echoed l) (sym (first k text token rest next))
-      ∙ is,
-)
-
-pub sofar_all : (out text all : List ℕ) → next_token text ≡ None → Sofar out text all → out ≡ all
-sofar_all out text all none (k, few, is) =
-    sym (append-nil out) ∙ ap (λ (l : List (List ℕ)). out ++ echoed l) (sym (blank k text none)) ∙ is
+-- no word is left
+pub echoed_all : (out text all : List ℕ) → None ≡ next_token text → out ++ echoed (words_of text) ≡ all → out ≡ all
+echoed_all out text all none is =
+    sym (append-nil out) ∙ ap (λ (ws : List (List ℕ)). out ++ echoed ws) (sym (no_word text none)) ∙ is

@@ -1,28 +1,9 @@
 -- The words of a text, one by one.
 -- Assumes nothing.
-use Rattle.std.proofs.Common.{◌≡◌, ℕ, zero, suc, ◌<◌, ◌≤◌, eqb, List, [], ◌∷◌, length, drop, Some, None, Option, sym, refl, ap, ◌∙◌, inl, inr, arith, length-drop, false-eqb}
-use Rattle.std.specs.List.{prefix_len}
-use Rattle.std.proofs.lemmas.Bool.{cases_Bool}
-use Rattle.text.specs.declared.stretch.Class.TheVariants.{Blank, Solid}
-use Rattle.text.specs.Lines.{in_class, from_token, cut, next_token}
-use Rattle.text.proofs.Tokens.{begins}
+use Rattle.std.proofs.Common.{◌≡◌, ℕ, zero, suc, ◌≤◌, List, [], ◌∷◌, length, Some, None, Option, sym, refl, ap, ◌∙◌, arith}
+use Rattle.text.specs.Lines.{next_token}
+use Rattle.text.proofs.Tokens.{after_less}
 use Rattle.console.specs.Words.{listed, words_up_to, words_of}
-
--- the text after a token is shorter
-after_less : (text : List ℕ) (p : List ℕ × List ℕ) → Some p ≡ next_token text → length p.1 < length text
-after_less text p e =
-    elim (cases_Bool (eqb (length (from_token text)) 0)) [
-      | inl t ↦
-          let none : next_token text ≡ None = rw t in
-          let z : ◌≡◌ {A = ℕ} 0 1 = cc in
-          absurd (omega arith)
-      | inr f ↦
-          let some : next_token text ≡ Some (cut (from_token text)) = rw f in
-          let same : p ≡ cut (from_token text) = cc in
-          let long : length p.1 ≡ length (drop (prefix_len (in_class Solid) (from_token text)) (from_token text)) = ap (λ q. length q.1) same in
-          let more : 0 < length (from_token text) = omega (arith, false-eqb _ 0 (sym f)) in
-          omega (arith, begins (in_class Blank) text more, length-drop (prefix_len (in_class Blank) text) text, length-drop (prefix_len (in_class Solid) (from_token text)) (from_token text))
-    ]
 
 none_at : (n : ℕ) → words_up_to n [] ≡ []
 none_at zero = refl

@@ -1,7 +1,7 @@
 pub mod Counted
 pub mod Left
 pub mod Names
-pub mod Spread
+pub mod BeBytes
 pub mod Gathered
 pub mod Packing
 pub mod Spaced

@@ -1,7 +1,7 @@
 pub mod Buffers
 pub mod Parsing
 pub mod Reasons
-pub mod Said
+pub mod Values
 pub mod Words
 pub mod ReplyTexts
 pub mod Lines

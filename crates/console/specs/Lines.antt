@@ -8,7 +8,8 @@ use Rattle.codecs.specs.Reading.{read_program}
 use Rattle.text.specs.Texts.{instruction_text}
 use Rattle.console.specs.declared.kind.Kind.{Kind}
 use Rattle.console.specs.declared.packed_command.PackedCommand.{PackedCommand}
-use Rattle.console.specs.declared.packed_command.PackedCommand.TheVariants.{Program as OfProgram, List as OfList, One as OfOne, Image as OfImage}
+use Rattle.console.specs.declared.packed_command.PackedCommand.TheVariants.{Program as OfProgram, List as OfList}
+use Rattle.console.specs.declared.packed_command.PackedCommand.TheVariants.{One as OfOne, Image as OfImage}
 use Rattle.console.specs.ReplyTexts.{kind_bytes, reply_at, count_read, after_reading, program_reply}
 
 -- a text and the line's end
@@ -43,7 +44,8 @@ image_head count spare = ended (codes "entries " ++ (decimal count ++ (codes " s
 -- the lines of an image: its first, and a line for each entry
 abbrev pub image_lines : Kind → List ℕ → List ℕ
 image_lines kind bytes =
-    image_head (length bytes / kind_bytes kind) (length bytes % kind_bytes kind) ++ flat_map (entry_line kind bytes) (range_with_len 0 (length bytes / kind_bytes kind))
+    image_head (length bytes / kind_bytes kind) (length bytes % kind_bytes kind)
+    ++ flat_map (entry_line kind bytes) (range_with_len 0 (length bytes / kind_bytes kind))
 
 -- what is printed for a command, with the program that was accepted before
 abbrev pub packed_lines : PackedCommand → Option (List Instruction) → List ℕ
@@ -55,6 +57,4 @@ packed_lines (OfImage kind bytes) before = image_lines kind (vec_items bytes)
 -- the accepted program after a command
 abbrev pub program_after : PackedCommand → Option (List Instruction) → Option (List Instruction)
 program_after (OfProgram bytes) before = after_reading (read_program (vec_items bytes)) before
-program_after OfList before = before
-program_after (OfOne kind bytes) before = before
-program_after (OfImage kind bytes) before = before
+program_after _ before = before

@@ -4,7 +4,8 @@ use Rattle.std.specs.Prelude.{◌≡◌, ℕ, List, Ok, Err, codes, Result}
 use Rattle.text.specs.declared.number.NumberFault.{NumberFault}
 use Rattle.text.specs.declared.number.NumberFault.TheVariants.{NoNumber as NoDigits, TooLarge}
 use Rattle.console.specs.declared.reason.Reason.{Reason}
-use Rattle.console.specs.declared.reason.Reason.TheVariants.{UnknownCommand, MissingWord, NoNumber, NumberTooLarge, NoBytes, NotFiveBytes, UnknownKind, ExtraWord, NoProgram, NoEngine}
+use Rattle.console.specs.declared.reason.Reason.TheVariants.{UnknownCommand, MissingWord, NoNumber, NumberTooLarge, NoBytes}
+use Rattle.console.specs.declared.reason.Reason.TheVariants.{NotFiveBytes, UnknownKind, ExtraWord, NoProgram, NoEngine}
 use Rattle.console.specs.declared.reason.ParseError.{ParseError}
 use Rattle.console.specs.declared.reason.ParseError.TheVariants.{NotUnderstood, NoMemory}
 
@@ -26,8 +27,8 @@ abbrev pub number_reason : NumberFault → Reason
 number_reason NoDigits = NoNumber
 number_reason TooLarge = NumberTooLarge
 
--- what was read, as it is viewed, is what was wanted, and so is the reason; where memory ran out, nothing is said
-abbrev pub Reads : {A B : Type 0} → (A → B) → Result A ParseError → Result B Reason → Type 0
-Reads view (Ok a) wanted = Ok (view a) ≡ wanted
-Reads view (Err (NotUnderstood reason)) wanted = Err reason ≡ wanted
-Reads view (Err NoMemory) wanted = Unit {0}
+-- the value that was parsed is the one that is wanted, and so is the reason; where memory ran out, nothing is promised
+abbrev pub ParsesAs : {A B : Type 0} → (A → B) → Result A ParseError → Result B Reason → Type 0
+ParsesAs value (Ok a) wanted = Ok (value a) ≡ wanted
+ParsesAs value (Err (NotUnderstood reason)) wanted = Err reason ≡ wanted
+ParsesAs value (Err NoMemory) wanted = Unit {0}

@@ -19,39 +19,23 @@ use Rattle.model.specs.Runs.{reply, played}
 use Rattle.text.specs.Machines.{token_text}
 use Rattle.text.specs.Digits.{refused_text}
 use Rattle.text.specs.Texts.{sent_text}
-use Rattle.console.specs.declared.machine.EngineCommand.{EngineCommand}
-use Rattle.console.specs.declared.machine.EngineCommand.TheVariants.{Call, Moves, Record, Tags as TagsOf, Core, Token}
-use Rattle.console.specs.ReplyTexts.{entry_reply, moved_reply, status_reply, spaced_text}
+use Rattle.console.specs.declared.engine_command.EngineCommand.{EngineCommand}
+use Rattle.console.specs.declared.engine_command.EngineCommand.TheVariants.{Call, Moves, Record, Tags as TagsOf, Core, Token}
+use Rattle.console.specs.ReplyTexts.{text_or_refusal, entry_reply, moved_reply, status_reply, spaced_text}
 use Rattle.console.specs.Repeated.{repeated, repeated_reply}
 
--- a call that answers nothing but that it was done, by the number of its refusal and the word for done
-abbrev pub done_reply : {R : Type 0} → (R → ℕ) → List ℕ → Result (Unit {0}) R → List ℕ
-done_reply number done (Ok x) = done
-done_reply number done (Err r) = refused_text (number r)
-
 -- a word that was read
-abbrev pub word_reply : Result ℕ ReadRefusal → List ℕ
-word_reply (Ok w) = codes "word " ++ decimal w
-word_reply (Err r) = refused_text (read_number r)
-
--- an entry that was taken
-abbrev pub taken_reply : Result SentEntry NothingWaits → List ℕ
-taken_reply (Ok x) = sent_text x
-taken_reply (Err r) = refused_text (nothing_waits_number r)
-
--- an entry of the record
-abbrev pub recorded_reply : Result RecordEntry RecordRefusal → List ℕ
-recorded_reply (Ok x) = entry_reply x
-recorded_reply (Err r) = refused_text (record_number r)
+abbrev pub word_text : ℕ → List ℕ
+word_text w = codes "word " ++ decimal w
 
 -- what a call answered
 abbrev pub reply_text : Reply → List ℕ
 reply_text (Stepped r) = moved_reply r
-reply_text (Cleared r) = done_reply clear_number (codes "cleared") r
-reply_text (Held r) = done_reply hold_number (codes "held") r
-reply_text (Word r) = word_reply r
-reply_text (GivenBack r) = done_reply give_back_number (codes "given back") r
-reply_text (Taken r) = taken_reply r
+reply_text (Cleared r) = text_or_refusal (λ _. codes "cleared") clear_number r
+reply_text (Held r) = text_or_refusal (λ _. codes "held") hold_number r
+reply_text (Word r) = text_or_refusal word_text read_number r
+reply_text (GivenBack r) = text_or_refusal (λ _. codes "given back") give_back_number r
+reply_text (Taken r) = text_or_refusal sent_text nothing_waits_number r
 
 -- the tags in the first places of a list
 abbrev pub tags_text : Result ℕ TagsRefusal → List ℕ → List ℕ
@@ -69,7 +53,7 @@ pub record TagsReply (e : Engine) (core places : ℕ) (text : List ℕ) : Type 0
 abbrev pub CommandReply : Engine → EngineCommand → List ℕ → Type 0
 CommandReply e (Call c) text = text ≡ reply_text (reply e c)
 CommandReply e (Moves m times) text = text ≡ repeated_reply (repeated e m times).answer
-CommandReply e (Record place) text = text ≡ recorded_reply (record_at e place)
+CommandReply e (Record place) text = text ≡ text_or_refusal entry_reply record_number (record_at e place)
 CommandReply e (TagsOf core places) text = TagsReply e core places text
 CommandReply e (Core core) text = text ≡ status_reply (status e core)
 CommandReply e Token text = text ≡ token_text (holder e)
@@ -78,7 +62,4 @@ CommandReply e Token text = text ≡ token_text (holder e)
 abbrev pub engine_after : Engine → EngineCommand → Engine
 engine_after e (Call c) = played e c
 engine_after e (Moves m times) = (repeated e m times).engine
-engine_after e (Record place) = e
-engine_after e (TagsOf core places) = e
-engine_after e (Core core) = e
-engine_after e Token = e
+engine_after e _ = e

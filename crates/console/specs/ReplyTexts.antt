@@ -27,10 +27,15 @@ use Rattle.text.specs.Texts.{instruction_text, record_text, sent_text}
 use Rattle.console.specs.declared.kind.Kind.{Kind}
 use Rattle.console.specs.declared.kind.Kind.TheVariants.{Instruction as OfInstruction, Entry as OfEntry, Sent as OfSent}
 
--- what was asked for, if it has a text, or the refusal by its number
+-- the text of a value, if it has one, or the refusal by its number
 abbrev pub result_text : {T R : Type 0} → (T → Option (List ℕ)) → (R → ℕ) → Result T R → Option (List ℕ)
 result_text output number (Ok value) = output value
 result_text output number (Err r) = Some (refused_text (number r))
+
+-- a value's text, or the refusal by its number
+abbrev pub text_or_refusal : {T R : Type 0} → (T → List ℕ) → (R → ℕ) → Result T R → List ℕ
+text_or_refusal text number (Ok value) = text value
+text_or_refusal text number (Err r) = refused_text (number r)
 
 -- a place outside, or the number and the place of an instruction that does not unpack
 abbrev pub refused_instruction : ListRefusal InstructionFault → List ℕ
@@ -48,8 +53,7 @@ entry_reply e = record_text e ++ (codes " = 0x" ++ hex_text (record_bytes e))
 
 -- a record entry, or the refusal
 abbrev pub record_reply : Result RecordEntry (ListRefusal EntryFault) → List ℕ
-record_reply (Ok e) = entry_reply e
-record_reply (Err r) = refused_text (list_number entry_number r)
+record_reply r = text_or_refusal entry_reply (list_number entry_number) r
 
 -- an outlet entry, or the refusal
 abbrev pub sent_reply : Result SentEntry (ListRefusal Infallible) → List ℕ
@@ -58,8 +62,7 @@ sent_reply (Err r) = refused_text 16
 
 -- what a step or a turn answered
 abbrev pub moved_reply : Result Answer StepRefusal → List ℕ
-moved_reply (Ok a) = answer_text a
-moved_reply (Err r) = refused_text (step_number r)
+moved_reply r = text_or_refusal answer_text step_number r
 
 -- how many cores a new engine has, or why it has none
 abbrev pub made_reply : Result (Unit {0}) CheckRefusal → ℕ → List ℕ
@@ -78,7 +81,10 @@ spaced_values output (x ∷ xs) = option_append (option_append (Some (codes " ")
 -- a core as people see it: its state, and then its numbers by their names
 abbrev pub status_text : Status → List ℕ
 status_text l =
-    state_text l.state ++ (codes " pc " ++ (decimal l.pc ++ (codes " registers" ++ (spaced_text l.registers ++ (codes " depth " ++ (decimal l.depth ++ (codes " count " ++ (decimal l.count ++ (codes " lines " ++ decimal l.used)))))))))
+    state_text l.state
+    ++ (codes " pc " ++ (decimal l.pc ++ (codes " registers" ++ (spaced_text l.registers
+    ++ (codes " depth " ++ (decimal l.depth ++ (codes " count " ++ (decimal l.count
+    ++ (codes " lines " ++ decimal l.used)))))))))
 
 -- a core, or that there is none
 abbrev pub status_reply : Option Status → List ℕ

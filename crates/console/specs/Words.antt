@@ -1,6 +1,6 @@
 -- The words of a line, taken from left to right.
 -- Assumes nothing.
-use Rattle.std.specs.Prelude.{◌≡◌, ℕ, zero, suc, cond, List, [], ◌∷◌, length, Some, None, Ok, Err, Option, Result, nat_lt}
+use Rattle.std.specs.Prelude.{◌≡◌, ℕ, zero, suc, if◌then◌else◌, List, [], ◌∷◌, length, Some, None, Ok, Err, Option, Result, nat_lt}
 use Rattle.std.specs.Option.{ok_or}
 use Rattle.std.specs.Result.{result_map_both}
 use Rattle.text.specs.Lines.{next_token}
@@ -55,12 +55,12 @@ unfoldable pub number_of : List (List ℕ) → Result ℕ Reason
 number_of words = and_then (word_of words) as_number
 
 -- 65,536 at most
-abbrev pub few : ℕ → Result ℕ Reason
-few n = cond (nat_lt 65536 n) (Err NumberTooLarge) (Ok n)
+abbrev pub at_most_65536 : ℕ → Result ℕ Reason
+at_most_65536 n = if nat_lt 65536 n then Err NumberTooLarge else Ok n
 
 -- the next word as a number of steps, turns, bytes or places
 unfoldable pub times_of : List (List ℕ) → Result ℕ Reason
-times_of words = and_then (number_of words) few
+times_of words = and_then (number_of words) at_most_65536
 
 -- the next word as bytes
 unfoldable pub bytes_of : List (List ℕ) → Result (List ℕ) Reason

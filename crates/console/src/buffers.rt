@@ -1,19 +1,19 @@
 // The memory and the outlet that the next engine is made from.
 ghost use Rattle.std.specs.Prelude.{◌≡◌, replicate, IfOk};
-ghost use Rattle.console.specs.Buffers.{memory_said, outlet_said, words as said_words, words_in, room_in};
+ghost use Rattle.console.specs.Buffers.{memory_value, outlet_value, words as value_words, words_in, room_in};
 
 use memory::shared::MOST_WORDS;
 use outlet::store::PLACES;
 use std::alloc::{AllocError, Global};
 
-// A buffer for a shared memory.
+/// A buffer for a shared memory.
 #[derive(Drop)]
 pub enum MemoryBuffer {
     Words(Vec<u32>),
     Bytes(Vec<u8>),
 }
 
-// A buffer for an outlet, which the store does not need. No Option: both forms have their name.
+/// A buffer for an outlet, which the store does not need. No Option: both forms have their name.
 #[derive(Drop)]
 pub enum OutletBuffer {
     Store,
@@ -22,15 +22,15 @@ pub enum OutletBuffer {
 
 impl MemoryBuffer {
     // Sixteen zero words.
-    pub fn plain(heap: Global) -> Result<MemoryBuffer, AllocError>
-        ensures { IfOk result (λ b. memory_said b ≡ said_words (replicate 16 0)) }
+    pub(crate) fn sixteen_zeros(heap: Global) -> Result<MemoryBuffer, AllocError>
+        ensures { IfOk result (λ b. memory_value b ≡ value_words (replicate 16 0)) }
     {
         Ok(MemoryBuffer::Words(vec![in heap; 0; 16]?))
     }
 
     // How many words it has as a memory.
-    pub fn words(&self) -> usize
-        ensures { result ≡ words_in (memory_said self.now) }
+    pub(crate) fn words(&self) -> usize
+        ensures { result ≡ words_in (memory_value self.now) }
     {
         match self {
             MemoryBuffer::Words(words) => words.len().min(MOST_WORDS),
@@ -41,8 +41,8 @@ impl MemoryBuffer {
 
 impl OutletBuffer {
     // How many entries there is room for in a new outlet.
-    pub fn room(&self) -> usize
-        ensures { result ≡ room_in (outlet_said self.now) }
+    pub(crate) fn room(&self) -> usize
+        ensures { result ≡ room_in (outlet_value self.now) }
     {
         match self {
             OutletBuffer::Store => PLACES,

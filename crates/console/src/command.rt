@@ -2,20 +2,22 @@
 ghost use Rattle.std.specs.Prelude.{◌≡◌, IfOk};
 ghost use Rattle.std.specs.Option.{option_map};
 ghost use Rattle.console.specs.Parsing.{settings_of, named_of, command_of};
-ghost use Rattle.console.specs.Reasons.{Reads};
-ghost use Rattle.console.specs.Said.{settings_said, said};
+ghost use Rattle.console.specs.Reasons.{ParsesAs};
+ghost use Rattle.console.specs.Values.{settings_value, command_value};
 
+use crate::buffer_command::{memory_buffer, outlet_buffer};
 use crate::buffers::{MemoryBuffer, OutletBuffer};
+use crate::engine_command::EngineCommand;
 use crate::kind::Kind;
-use crate::machine::EngineCommand;
 use crate::packed_command::PackedCommand;
 use crate::reason::{ParseError, Reason};
-use crate::setting::{memory_buffer, outlet_buffer};
 use crate::words::{Words, as_name};
 use std::alloc::{AllocError, Global};
 
+/// A command of a scenario.
 #[derive(Drop)]
 pub enum Command {
+    // a command on programs and packed words
     Packed(PackedCommand),
     // the memory that the next make hands in
     Memory(MemoryBuffer),
@@ -23,10 +25,11 @@ pub enum Command {
     Outlet(OutletBuffer),
     // makes an engine
     Make(Settings),
+    // a command to the engine
     Engine(EngineCommand),
 }
 
-// How many lines a core has, and where each core starts.
+/// How many lines a core has, and where each core starts.
 #[derive(Drop)]
 pub struct Settings {
     pub lines: usize,
@@ -43,7 +46,7 @@ fn widened(heap: Global, numbers: &[u32]) -> Result<Vec<usize>, AllocError>
 impl Settings {
     // The settings that the words after `make` say.
     fn parse(heap: Global, mut words: Words) -> Result<Settings, ParseError>
-        ensures { Reads settings_said result (settings_of words.entry) }
+        ensures { ParsesAs settings_value result (settings_of words.entry) }
     {
         let lines = words.place()?;
         let numbers = words.numbers(heap)?;
@@ -55,7 +58,7 @@ impl Settings {
 impl Command {
     // The command of a name and the words after it.
     fn named(heap: Global, name: &str, words: Words) -> Result<Command, ParseError>
-        ensures { Reads said result (named_of name.now words.entry) }
+        ensures { ParsesAs command_value result (named_of name.now words.entry) }
     {
         match name {
             "memory" => Ok(Command::Memory(memory_buffer(heap, words)?)),
@@ -76,9 +79,9 @@ impl Command {
         }
     }
 
-    // The command that a text says. None where the text is blank.
+    /// The command that a text says. None where the text is blank.
     pub fn parse(heap: Global, text: &[u8]) -> Result<Option<Command>, ParseError>
-        ensures { Reads (option_map said) result (command_of text.now) }
+        ensures { ParsesAs (option_map command_value) result (command_of text.now) }
     {
         let mut words = Words::new(text);
         let Some(word) = words.next() else {

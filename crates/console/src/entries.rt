@@ -4,10 +4,10 @@ ghost use Rattle.console.specs.ReplyTexts.{kind_bytes, reply_at};
 
 use crate::kind::Kind;
 use crate::reply_texts::{instruction_reply, record_reply, sent_reply};
-use formats::entry::{RecordEntry, SentEntry};
-use formats::instruction::Instruction;
 use codecs::packed_entry::PackedEntry;
 use codecs::packed_list;
+use formats::entry::{RecordEntry, SentEntry};
+use formats::instruction::Instruction;
 use std::alloc::{AllocError, Global};
 
 // Bytes as a packed list of entries of a kind.

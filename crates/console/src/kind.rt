@@ -4,6 +4,7 @@ ghost use Rattle.console.specs.Parsing.{kind_of};
 
 use crate::words::as_name;
 
+/// A kind of packed entries.
 #[derive(Clone, Copy, PartialEq, Eq, Debug)]
 pub enum Kind {
     Instruction,

@@ -1,13 +1,14 @@
 // The console: a line of a scenario as a command, and what the line comes to.
 #![tactic(auto)]
 
+mod buffer_command;
 pub mod buffers;
 pub mod command;
 pub mod console;
+pub mod engine_command;
 mod entries;
 pub mod kind;
 pub mod line;
-pub mod machine;
 mod moves;
 pub mod packed_answers;
 pub mod packed_command;
@@ -15,5 +16,4 @@ mod packed_form;
 pub mod reason;
 pub mod replies;
 pub mod reply_texts;
-mod setting;
 mod words;

@@ -2,7 +2,7 @@
 ghost use Rattle.std.specs.Prelude.{◌≡◌, IfOk, string_bytes};
 ghost use Rattle.console.specs.Repeated.{moved, repeated, repeated_reply};
 
-use crate::machine::Move;
+use crate::engine_command::Move;
 use crate::reply_texts::moved_reply;
 use engine::engine::Hosted;
 use formats::answer::Answer;

@@ -7,14 +7,14 @@ ghost use Rattle.console.specs.ReplyTexts.{count_read, after_reading, program_re
 use crate::entries::Image;
 use crate::line::write_line;
 use crate::packed_command::PackedCommand;
+use codecs::program::Program;
 use formats::instruction::Instruction;
 use formats::refusal::ProgramRefusal;
-use codecs::program::Program;
 use std::alloc::{AllocError, Global};
 use text::refused::RefusedAt;
 use text::show::Shown;
 
-// Answers the command: the line's end, and the lines after it. `program` is the accepted program.
+/// Answers the command: the line's end, and the lines after it. `program` is the accepted program.
 pub fn answer(
     command: PackedCommand,
     program: &mut Option<Program>,
@@ -89,7 +89,7 @@ fn show_image(image: Image, out: &mut Vec<u8>) -> Result<(), AllocError>
     let entries = image.count();
     let head = format!(in *out.allocator(); "entries {entries} spare {}", image.spare())?;
     write_line(out, head.as_str())?;
-    // By place, which is what the packed list is asked for.
+    // By place, which is what the packed list takes.
     for place in 0..entries {
         show_one(image, place, out)?;
     }

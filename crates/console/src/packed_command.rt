@@ -1,8 +1,8 @@
 // The commands on programs and packed words, which need no engine.
 ghost use Rattle.std.specs.Prelude.{◌≡◌, IfOk, vec_items};
-ghost use Rattle.console.specs.Parsing.{spread, entry_of, program_of, program_bytes_of, one_of, image_of};
-ghost use Rattle.console.specs.Reasons.{Reads};
-ghost use Rattle.console.specs.Said.{packed_said};
+ghost use Rattle.console.specs.Parsing.{be_bytes, entry_of, program_of, program_bytes_of, one_of, image_of};
+ghost use Rattle.console.specs.Reasons.{ParsesAs};
+ghost use Rattle.console.specs.Values.{packed_value};
 ghost use Rattle.console.specs.Words.{others};
 
 use crate::kind::Kind;
@@ -10,6 +10,7 @@ use crate::reason::{ParseError, Reason};
 use crate::words::Words;
 use std::alloc::{AllocError, Global};
 
+/// A command on programs and packed words.
 #[derive(Drop)]
 pub enum PackedCommand {
     // reads a program over the bytes
@@ -23,8 +24,8 @@ pub enum PackedCommand {
 }
 
 // Numbers as bytes, four each, most significant first.
-fn spread_out(heap: Global, numbers: &[u32]) -> Result<Vec<u8>, AllocError>
-    ensures { IfOk result (λ v. v.items ≡ spread numbers.now) }
+fn to_be_bytes(heap: Global, numbers: &[u32]) -> Result<Vec<u8>, AllocError>
+    ensures { IfOk result (λ v. v.items ≡ be_bytes numbers.now) }
 {
     let mut bytes = Vec::new(heap);
     for number in numbers {
@@ -35,7 +36,7 @@ fn spread_out(heap: Global, numbers: &[u32]) -> Result<Vec<u8>, AllocError>
 
 // The bytes of one packed entry: a word, or five bytes for what was sent.
 fn entry_bytes(heap: Global, kind: Kind, words: &mut Words) -> Result<Vec<u8>, ParseError>
-    ensures value { Reads vec_items result (entry_of kind words.old) }
+    ensures value { ParsesAs vec_items result (entry_of kind words.old) }
     ensures after { words.new ≡ others words.old }
 {
     match kind {
@@ -56,15 +57,15 @@ fn entry_bytes(heap: Global, kind: Kind, words: &mut Words) -> Result<Vec<u8>, P
 impl PackedCommand {
     // The program of the words that are left.
     pub(crate) fn program(heap: Global, words: Words) -> Result<PackedCommand, ParseError>
-        ensures { Reads packed_said result (program_of words.entry) }
+        ensures { ParsesAs packed_value result (program_of words.entry) }
     {
         let numbers = words.numbers(heap)?;
-        Ok(PackedCommand::Program(spread_out(heap, numbers.as_slice())?))
+        Ok(PackedCommand::Program(to_be_bytes(heap, numbers.as_slice())?))
     }
 
     // The program of some bytes, and nothing after them.
     pub(crate) fn program_bytes(heap: Global, mut words: Words) -> Result<PackedCommand, ParseError>
-        ensures { Reads packed_said result (program_bytes_of words.entry) }
+        ensures { ParsesAs packed_value result (program_bytes_of words.entry) }
     {
         let bytes = words.bytes(heap)?;
         Ok(words.end(PackedCommand::Program(bytes))?)
@@ -76,7 +77,7 @@ impl PackedCommand {
         kind: Kind,
         mut words: Words,
     ) -> Result<PackedCommand, ParseError>
-        ensures { Reads packed_said result (one_of kind words.entry) }
+        ensures { ParsesAs packed_value result (one_of kind words.entry) }
     {
         let bytes = entry_bytes(heap, kind, &mut words)?;
         Ok(words.end(PackedCommand::One(kind, bytes))?)
@@ -84,7 +85,7 @@ impl PackedCommand {
 
     // A kind and some bytes, and nothing after them.
     pub(crate) fn image(heap: Global, mut words: Words) -> Result<PackedCommand, ParseError>
-        ensures { Reads packed_said result (image_of words.entry) }
+        ensures { ParsesAs packed_value result (image_of words.entry) }
     {
         let word = words.word()?;
         let kind = Kind::named(word).ok_or(Reason::UnknownKind)?;

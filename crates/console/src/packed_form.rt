@@ -2,16 +2,16 @@
 ghost use Rattle.std.specs.Prelude.{Some, Ok};
 ghost use Rattle.console.specs.ReplyTexts.{instruction_reply, entry_reply, sent_reply};
 
+use codecs::packed_entry::PackedEntry;
 use formats::entry::{RecordEntry, SentEntry};
 use formats::instruction::Instruction;
-use codecs::packed_entry::PackedEntry;
 use std::fmt;
 use text::hexadecimal::Hex;
 use text::show::Shown;
 
 // An entry's text and its packed form.
 #[derive(Clone, Copy, PartialEq, Eq, Debug)]
-pub struct Packed<E>(pub E);
+pub(crate) struct Packed<E>(pub E);
 
 impl fmt::Display for Packed<Instruction> {
     ghost output = { λ p. Some (instruction_reply (Ok p.0)) };

@@ -7,6 +7,7 @@ use std::alloc::{AllocError, AllocFailed};
 use std::fmt;
 use text::number::NumberFault;
 
+/// Why a line is not understood.
 #[derive(Clone, Copy, PartialEq, Eq, Debug)]
 pub enum Reason {
     UnknownCommand,
@@ -52,7 +53,7 @@ impl From<NumberFault> for Reason {
     }
 }
 
-// Why a line gives no command.
+/// Why a line gives no command.
 #[derive(Clone, Copy, PartialEq, Eq, Debug)]
 pub enum ParseError {
     NotUnderstood(Reason),

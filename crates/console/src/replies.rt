@@ -1,8 +1,10 @@
 // What an engine answers to the console's commands, over any memory and any outlet.
 ghost use Rattle.std.specs.Prelude.{◌≡◌, Some, Ok, IfOk, string_bytes};
-ghost use Rattle.console.specs.Replies.{done_reply, word_reply, recorded_reply, reply_text, TagsReply, CommandReply, engine_after};
+ghost use Rattle.model.specs.Refusals.{record_number};
+ghost use Rattle.console.specs.ReplyTexts.{text_or_refusal, entry_reply};
+ghost use Rattle.console.specs.Replies.{word_text, reply_text, TagsReply, CommandReply, engine_after};
 
-use crate::machine::EngineCommand;
+use crate::engine_command::EngineCommand;
 use crate::moves::{repeat, repeated_reply};
 use crate::packed_form::Packed;
 use crate::reply_texts::{moved_reply, refused_text, result_text, spaced, status_reply};
@@ -22,7 +24,7 @@ use text::show::Shown;
 struct Word(u32);
 
 impl fmt::Display for Word {
-    ghost output = { λ w. Some (word_reply (Ok w.0)) };
+    ghost output = { λ w. Some (word_text w.0) };
 
     fn fmt<W: fmt::Write>(&self, f: &mut fmt::Formatter<W>) -> fmt::Result {
         write!(f, "word {}", self.0)
@@ -35,7 +37,7 @@ fn done_reply<R: Refusal + Drop>(
     answer: Result<(), R>,
     done: &str,
 ) -> Result<String, AllocError>
-    ensures { IfOk result (λ s. string_bytes s ≡ done_reply R.Refusal.number done.now answer) }
+    ensures { IfOk result (λ s. string_bytes s ≡ text_or_refusal (λ _. done.now) R.Refusal.number answer) }
 {
     result_text(heap, answer.map(|()| done))
 }
@@ -59,7 +61,7 @@ fn recorded_reply(
     heap: Global,
     answer: Result<RecordEntry, RecordRefusal>,
 ) -> Result<String, AllocError>
-    ensures { IfOk result (λ s. string_bytes s ≡ recorded_reply answer) }
+    ensures { IfOk result (λ s. string_bytes s ≡ text_or_refusal entry_reply record_number answer) }
 {
     result_text(heap, answer.map(Packed))
 }
@@ -84,7 +86,7 @@ fn tags_reply<M: Memory, O: Outlet>(
     }
 }
 
-// The reply to a command.
+/// The reply to a command.
 pub fn command_reply<M: Memory, O: Outlet>(
     heap: Global,
     hosted: &mut Hosted<M, O>,

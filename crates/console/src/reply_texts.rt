@@ -1,6 +1,7 @@
 // The texts of replies: of an entry or of an answer, or the refusal.
 ghost use Rattle.std.specs.Prelude.{◌≡◌, IfOk, IfSome, string_bytes};
-ghost use Rattle.console.specs.ReplyTexts.{result_text, refused_instruction, instruction_reply, record_reply, sent_reply, moved_reply, made_reply, spaced_values, status_reply};
+ghost use Rattle.console.specs.ReplyTexts.{result_text, refused_instruction, instruction_reply, record_reply, sent_reply};
+ghost use Rattle.console.specs.ReplyTexts.{moved_reply, made_reply, spaced_values, status_reply};
 ghost use Rattle.text.specs.Digits.{refused_text};
 
 use crate::packed_form::Packed;
@@ -17,14 +18,14 @@ use text::refused::{Refused, RefusedAt};
 use text::show::Shown;
 
 // A refusal without a place.
-pub fn refused_text<R: Refusal + Drop>(heap: Global, refusal: R) -> Result<String, AllocError>
+pub(crate) fn refused_text<R: Refusal + Drop>(heap: Global, refusal: R) -> Result<String, AllocError>
     ensures { IfOk result (λ s. string_bytes s ≡ refused_text (R.Refusal.number refusal)) }
 {
     format!(in heap; "{}", Refused(refusal))
 }
 
-// What was asked for, or a refusal without a place.
-pub fn result_text<T: fmt::Display + Drop, R: Refusal + Drop>(
+// The text of a value, or a refusal without a place.
+pub(crate) fn result_text<T: fmt::Display + Drop, R: Refusal + Drop>(
     heap: Global,
     answer: Result<T, R>,
 ) -> Result<String, AllocError>
@@ -83,13 +84,13 @@ pub(crate) fn sent_reply(
 }
 
 // What a step or a turn answered.
-pub fn moved_reply(heap: Global, moved: Result<Answer, StepRefusal>) -> Result<String, AllocError>
+pub(crate) fn moved_reply(heap: Global, moved: Result<Answer, StepRefusal>) -> Result<String, AllocError>
     ensures { IfOk result (λ s. string_bytes s ≡ moved_reply moved) }
 {
     result_text(heap, moved.map(Shown))
 }
 
-// How many cores a new engine has, or why it has none.
+/// How many cores a new engine has, or why it has none.
 pub fn made_reply(
     heap: Global,
     checked: Result<(), CheckRefusal>,
@@ -104,7 +105,7 @@ pub fn made_reply(
 }
 
 // Some values, a space before each.
-pub fn spaced<T: fmt::Display>(heap: Global, values: &[T]) -> Result<String, AllocError>
+pub(crate) fn spaced<T: fmt::Display>(heap: Global, values: &[T]) -> Result<String, AllocError>
     ensures { IfOk result (λ s. IfSome (spaced_values T.output values.now) (λ text. string_bytes s ≡ text)) }
 {
     let mut written = String::new(heap);
@@ -115,7 +116,7 @@ pub fn spaced<T: fmt::Display>(heap: Global, values: &[T]) -> Result<String, All
 }
 
 // A core as people see it, or that there is none.
-pub fn status_reply(heap: Global, status: Option<Status>) -> Result<String, AllocError>
+pub(crate) fn status_reply(heap: Global, status: Option<Status>) -> Result<String, AllocError>
     ensures { IfOk result (λ s. string_bytes s ≡ status_reply status) }
 {
     let Some(status) = status else {

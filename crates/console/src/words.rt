@@ -2,7 +2,7 @@
 ghost use Rattle.std.specs.Prelude.{◌≡◌, ℕ, List, Some, IfSome, IsSome, IsAscii, vec_items};
 ghost use Rattle.std.specs.Option.{option_map};
 ghost use Rattle.std.specs.Result.{result_map_both as mapped_ok};
-ghost use Rattle.console.specs.Reasons.{Reads};
+ghost use Rattle.console.specs.Reasons.{ParsesAs};
 ghost use Rattle.console.specs.Words.{words_of, first, others, word_of, number_of, times_of, bytes_of, numbers_of, ended};
 
 use crate::reason::{ParseError, Reason};
@@ -110,7 +110,7 @@ impl<'a> Words<'a> {
 
     #[tactic(auto, unfolding(crate::specs::Words::bytes_of))]
     pub(crate) fn bytes(&mut self, heap: Global) -> Result<Vec<u8>, ParseError>
-        ensures value { Reads vec_items result (bytes_of self.old) }
+        ensures value { ParsesAs vec_items result (bytes_of self.old) }
         ensures after { self.new ≡ others self.old }
     {
         let word = self.word()?;
@@ -119,7 +119,7 @@ impl<'a> Words<'a> {
 
     // All words that are left, as numbers.
     pub(crate) fn numbers(self, heap: Global) -> Result<Vec<u32>, ParseError>
-        ensures { Reads vec_items result (numbers_of self.entry) }
+        ensures { ParsesAs vec_items result (numbers_of self.entry) }
     {
         let mut numbers = Vec::new(heap);
         for word in self {

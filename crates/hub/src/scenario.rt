@@ -1,8 +1,8 @@
 // A scenario that is read line by line, and what it prints.
 use console::buffers::{MemoryBuffer, OutletBuffer};
-use console::console::{Console, Next, Order, write_reason, write_reply};
+use console::console::{Console, EngineSetup, Next, write_reason, write_reply};
+use console::engine_command::EngineCommand;
 use console::line::write_line;
-use console::machine::EngineCommand;
 use console::reason::Reason;
 use console::replies::command_reply;
 use console::reply_texts::made_reply;
@@ -51,7 +51,7 @@ pub struct Scenario<'a, R: Read> {
 }
 
 impl<'a, R: Read + Drop> Scenario<'a, R> {
-    // Plays a scenario from its beginning. The inner Err is a failed read, which ends it.
+    /// Plays a scenario from its beginning. The inner Err is a failed read, which ends it.
     pub fn play(rt: &'a HostRuntime, source: R) -> io::Result<io::Result<()>> {
         let heap = rt.alloc();
         let mut scenario = Scenario {
@@ -62,13 +62,13 @@ impl<'a, R: Read + Drop> Scenario<'a, R> {
             out: Vec::new(heap),
             end: Ok(()),
         };
-        let mut order = scenario.play_without_engine()?;
+        let mut setup = scenario.play_without_engine()?;
         // No `while`: a function has to end, and it is not known that input does.
         for _ in 0..u64::MAX {
-            let Some(made) = order else {
+            let Some(made) = setup else {
                 break;
             };
-            order = scenario.play_order(made)?;
+            setup = scenario.play_engine(made)?;
         }
         scenario.write_out()?;
         Ok(scenario.end)
@@ -97,7 +97,7 @@ impl<'a, R: Read + Drop> Scenario<'a, R> {
     }
 
     // Plays lines until one makes an engine, or the last. `answer` answers a command to an engine, by its line.
-    fn play_lines<F>(&mut self, mut answer: F) -> io::Result<Option<Order>>
+    fn play_lines<F>(&mut self, mut answer: F) -> io::Result<Option<EngineSetup>>
     where
         F: FnMut(EngineCommand, &[u8], &mut Vec<u8>) -> io::Result<()>,
         requires { F.IsAlwaysCallable answer }
@@ -111,25 +111,25 @@ impl<'a, R: Read + Drop> Scenario<'a, R> {
             match next {
                 Next::Line => {}
                 Next::Engine(command) => answer(command, self.line.as_slice(), &mut self.out)?,
-                Next::Make(order) => return Ok(Some(order)),
+                Next::Make(setup) => return Ok(Some(setup)),
             }
         }
         Ok(None)
     }
 
     // Plays lines before there is an engine.
-    fn play_without_engine(&mut self) -> io::Result<Option<Order>> {
+    fn play_without_engine(&mut self) -> io::Result<Option<EngineSetup>> {
         self.play_lines(|_command, _line, out| Ok(write_reason(out, Reason::NoEngine)?))
     }
 
     // Plays lines on a new engine. Memory and outlet borrow their buffers, which are let go with it.
-    fn play_order(&mut self, order: Order) -> io::Result<Option<Order>> {
-        let Order {
+    fn play_engine(&mut self, setup: EngineSetup) -> io::Result<Option<EngineSetup>> {
+        let EngineSetup {
             program,
             settings: read,
             memory,
             outlet,
-        } = order;
+        } = setup;
         let settings = Settings {
             program: &program,
             places: read.places.as_slice(),
@@ -152,7 +152,7 @@ impl<'a, R: Read + Drop> Scenario<'a, R> {
         settings: Settings<'_>,
         memory: M,
         outlet: OutletBuffer,
-    ) -> io::Result<Option<Order>> {
+    ) -> io::Result<Option<EngineSetup>> {
         let checked = settings.check(memory.len());
         let reply = made_reply(self.rt.alloc(), checked, settings.places.len())?;
         write_line(&mut self.out, reply.as_str())?;
@@ -170,7 +170,7 @@ impl<'a, R: Read + Drop> Scenario<'a, R> {
         settings: Settings<'_>,
         memory: M,
         buffer: &'b mut [u8],
-    ) -> io::Result<Option<Order>> {
+    ) -> io::Result<Option<EngineSetup>> {
         self.play_outlet(settings, memory, V::over(buffer))
     }
 
@@ -180,22 +180,22 @@ impl<'a, R: Read + Drop> Scenario<'a, R> {
         settings: Settings<'_>,
         memory: M,
         outlet: O,
-    ) -> io::Result<Option<Order>> {
+    ) -> io::Result<Option<EngineSetup>> {
         let mut hosted = Hosted::make(settings, memory, outlet);
         let next = self.play_with_engine(&mut hosted);
         let held = hosted.close();
-        let order = next?;
-        if held && order.is_none() {
+        let setup = next?;
+        if held && setup.is_none() {
             write_line(&mut self.out, "(end) give back -> given back")?;
         }
-        Ok(order)
+        Ok(setup)
     }
 
     // Plays lines, with the answers of an engine.
     fn play_with_engine<M: Memory, O: Outlet>(
         &mut self,
         hosted: &mut Hosted<M, O>,
-    ) -> io::Result<Option<Order>> {
+    ) -> io::Result<Option<EngineSetup>> {
         let heap = self.rt.alloc();
         self.play_lines(|command, line, out| {
             let reply = command_reply(heap, hosted, command)?;

@@ -1,7 +1,7 @@
 // Lines as commands, at the edges.
 use console::command::Command;
+use console::engine_command::{EngineCommand, Move};
 use console::kind::Kind;
-use console::machine::{EngineCommand, Move};
 use console::packed_command::PackedCommand;
 use console::reason::{ParseError, Reason};
 use model::call::Call;

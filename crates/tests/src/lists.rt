@@ -1,8 +1,8 @@
 // The packed list: places inside and outside, spare bytes, and what a write leaves.
-use formats::entry::{RecordEntry, SentEntry};
-use formats::instruction::Instruction;
 use codecs::packed_entry::PackedEntry;
 use codecs::packed_list::{count, get, put};
+use formats::entry::{RecordEntry, SentEntry};
+use formats::instruction::Instruction;
 use formats::refusal::{EntryFault, ListRefusal, Placed};
 
 #[test]

@@ -1,6 +1,6 @@
 // The outlets at their edges.
-use formats::entry::SentEntry;
 use codecs::packed_entry::PackedEntry;
+use formats::entry::SentEntry;
 use formats::refusal::{NoRoom, NothingWaits};
 use outlet::bytes::ByteOutlet;
 use outlet::store::StoreOutlet;

@@ -1,8 +1,8 @@
 // Instructions, record entries and outlet entries, packed and unpacked at the edges of their fields.
+use codecs::packed_entry::PackedEntry;
 use formats::below::{Below, Channel, CoreNumber, Immediate, UnitCount};
 use formats::entry::{Mark, RecordEntry, SentEntry};
 use formats::instruction::Instruction;
-use codecs::packed_entry::PackedEntry;
 use formats::refusal::{EntryFault, InstructionFault};
 use formats::register::Register;
 use std::test::Fail;

@@ -1,6 +1,6 @@
 // Reading programs: byte counts, jump targets, the last instruction, and the place of the first refusal.
-use formats::refusal::{InstructionFault, ProgramFault, ProgramRefusal};
 use codecs::program::Program;
+use formats::refusal::{InstructionFault, ProgramFault, ProgramRefusal};
 use std::test::Fail;
 
 // What reading refuses the bytes for, or None where it accepts them.

@@ -1,8 +1,8 @@
 // The lines of a list and of an image: none, spare bytes, and a refused entry among others.
+use codecs::program::Program;
 use console::kind::Kind;
 use console::packed_answers::answer;
 use console::packed_command::PackedCommand;
-use codecs::program::Program;
 use std::alloc::{AllocError, Global};
 use std::test::Fail;
 

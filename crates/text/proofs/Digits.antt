@@ -20,7 +20,7 @@ more_fitting base n d some =
 
 -- a byte that is no digit decides
 pub no_digits : (base : ℕ) (ds : List ℕ) (i : ℕ) → i < length ds → prefix_len (λ b. is_digit b base) ds ≡ i → Err NoNumber ≡ read_digits base ds
-no_digits base ds i inside stretch = grind (arith, nat_tests)
+no_digits base ds i inside run = grind (arith, nat_tests)
 
 -- digits throughout
 pub all_digits : (base : ℕ) (ds : List ℕ) → 0 < length ds → prefix_len (λ b. is_digit b base) ds ≡ length ds → ok_or (fitting (digits_value base ds)) TooLarge ≡ read_digits base ds

@@ -2,7 +2,8 @@
 -- Assumes nothing.
 use Rattle.std.specs.Prelude.{ℕ, List, ◌++◌, codes, decimal}
 use Rattle.formats.specs.declared.answer.Answer.{Answer}
-use Rattle.formats.specs.declared.answer.Answer.TheVariants.{Running, Waiting, Done, Committing, Early, Full, Stopped as SaysStopped, RolledBack, Retried, Faulted}
+use Rattle.formats.specs.declared.answer.Answer.TheVariants.{Running, Waiting, Done, Committing, Early, Full, RolledBack, Retried, Faulted}
+use Rattle.formats.specs.declared.answer.Answer.TheVariants.{Stopped as AnswerStopped}
 use Rattle.formats.specs.Answers.{fault_number}
 use Rattle.model.specs.declared.state.State.{State}
 use Rattle.model.specs.declared.state.State.TheVariants.{Bypass, Transaction, Commit, Abort, EarlyFlush, EarlyCommit, Stopped}
@@ -17,7 +18,7 @@ answer_text Done = codes "done"
 answer_text Committing = codes "committing"
 answer_text Early = codes "early"
 answer_text Full = codes "full"
-answer_text SaysStopped = codes "stopped"
+answer_text AnswerStopped = codes "stopped"
 answer_text RolledBack = codes "rolled back"
 answer_text Retried = codes "retried"
 answer_text (Faulted f pc) = codes "faulted " ++ (decimal (fault_number f) ++ (codes " at " ++ decimal pc))

@@ -1,6 +1,7 @@
 -- Tokens as numbers and as bytes.
 -- Assumes nothing.
-use Rattle.std.specs.Prelude.{ℕ, ◌+◌, ◌*◌, ◌/◌, ◌%◌, Bool, cond, ◌&&◌, List, [], map, length, drop, Some, None, Ok, Err, Option, Result, ◌==◌, nat_lt, slice_index}
+use Rattle.std.specs.Prelude.{ℕ, ◌+◌, ◌*◌, ◌/◌, ◌%◌, ◌^◌, Bool, ◌&&◌, ◌==◌, if◌then◌else◌, nat_lt, List, [], map, length, drop, slice_index}
+use Rattle.std.specs.Prelude.{Some, None, Ok, Err, Option, Result}
 use Rattle.std.specs.List.{range_with_len, prefix_len}
 use Rattle.std.specs.Str.Parse.{digits_value}
 use Rattle.std.specs.Char.{digit_value, is_digit}
@@ -13,12 +14,14 @@ throughout test bs = prefix_len test bs == length bs
 
 -- a number that 32 bits hold
 abbrev pub fitting : ℕ → Option ℕ
-fitting n = cond (nat_lt n 4294967296) (Some n) None
+fitting n = if nat_lt n (2 ^ 32) then Some n else None
 
--- what digits write in a base: they are looked at first, and then how large the number is
+-- what digits write in a base: first each has to be a digit, and then the number has to fit
 abbrev pub read_digits : ℕ → List ℕ → Result ℕ NumberFault
 read_digits base ds =
-    cond (nat_lt 0 (length ds) && throughout (λ b. is_digit b base) ds) (cond (nat_lt (digits_value base ds) 4294967296) (Ok (digits_value base ds)) (Err TooLarge)) (Err NoNumber)
+    if nat_lt 0 (length ds) && throughout (λ b. is_digit b base) ds
+    then (if nat_lt (digits_value base ds) (2 ^ 32) then Ok (digits_value base ds) else Err TooLarge)
+    else Err NoNumber
 
 -- the token begins with 0x
 abbrev pub hexadecimal : List ℕ → Bool
@@ -27,7 +30,7 @@ hexadecimal token = slice_index token 0 == 48 && slice_index token 1 == 120
 -- the number that a token writes: hexadecimal after 0x, else decimal
 abbrev pub read_number : List ℕ → Result ℕ NumberFault
 read_number token =
-    cond (hexadecimal token) (read_digits 16 (drop 2 token)) (read_digits 10 token)
+    if hexadecimal token then read_digits 16 (drop 2 token) else read_digits 10 token
 
 -- the i-th byte of a token of pairs of hexadecimal digits
 abbrev pub byte_at : List ℕ → ℕ → ℕ
@@ -43,8 +46,9 @@ pairs token = length token % 2 == 0 && throughout (λ b. is_digit b 16) token
 
 -- the bytes that pairs write, if the token is some
 abbrev pub read_pairs : List ℕ → Option (List ℕ)
-read_pairs token = cond (pairs token) (Some (map (byte_at token) (range_with_len 0 (length token / 2)))) None
+read_pairs token =
+    if pairs token then Some (map (byte_at token) (range_with_len 0 (length token / 2))) else None
 
 -- the bytes that a token writes, if it writes some
 abbrev pub read_bytes : List ℕ → Option (List ℕ)
-read_bytes token = cond (dash token) (Some []) (read_pairs token)
+read_bytes token = if dash token then Some [] else read_pairs token

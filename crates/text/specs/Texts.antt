@@ -3,7 +3,8 @@
 use Rattle.std.specs.Prelude.{ℕ, List, ◌++◌, codes, decimal}
 use Rattle.formats.specs.declared.register.Register.{Register}
 use Rattle.formats.specs.declared.instruction.Instruction.{Instruction}
-use Rattle.formats.specs.declared.instruction.Instruction.TheVariants.{Halt, Set, Add, Sub, Mean, Load, Store, Jump, Jz, Jlt, Begin, End, Retry, Early, Out}
+use Rattle.formats.specs.declared.instruction.Instruction.TheVariants.{Halt, Set, Add, Sub, Mean, Load, Store, Jump, Jz, Jlt}
+use Rattle.formats.specs.declared.instruction.Instruction.TheVariants.{Begin, End, Retry, Early, Out}
 use Rattle.formats.specs.declared.entry.RecordEntry.{RecordEntry}
 use Rattle.formats.specs.declared.entry.SentEntry.{SentEntry}
 use Rattle.formats.specs.Records.{mark_number}
@@ -41,7 +42,9 @@ instruction_text (Out a channel) = codes "OUT" ++ (reg a ++ num channel.value)
 -- a record entry: its core, mark and count
 abbrev pub record_text : RecordEntry → List ℕ
 record_text e =
-    codes "core " ++ (decimal e.core.value ++ (codes " mark " ++ (decimal (mark_number e.mark) ++ (codes " count " ++ decimal e.count.value))))
+    codes "core "
+    ++ (decimal e.core.value
+    ++ (codes " mark " ++ (decimal (mark_number e.mark) ++ (codes " count " ++ decimal e.count.value))))
 
 -- an outlet entry: its channel and word
 abbrev pub sent_text : SentEntry → List ℕ

@@ -17,7 +17,7 @@ fn read_pairs(heap: Global, token: &[u8]) -> Result<Option<Vec<u8>>, AllocError>
     }
 }
 
-// The bytes that a token writes. None where it is neither pairs of hexadecimal digits nor `-`.
+/// The bytes that a token writes. None where it is neither pairs of hexadecimal digits nor `-`.
 pub fn read_bytes(heap: Global, token: &[u8]) -> Result<Option<Vec<u8>>, AllocError>
     ensures { IfOk result (λ o. option_map vec_items o ≡ read_bytes token.now) }
 {

@@ -5,7 +5,7 @@ ghost use Rattle.text.specs.Digits.{hex_text};
 
 use std::fmt;
 
-// The lowest bytes of a number, at most its eight, as two digits each.
+/// The lowest bytes of a number, at most its eight, as two digits each.
 #[derive(Clone, Copy, PartialEq, Eq, Debug)]
 pub struct Hex<const BYTES: usize>(pub u64);
 

@@ -3,10 +3,10 @@
 #![tactic(auto)]
 
 pub mod bytes;
+mod class;
 pub mod hexadecimal;
 pub mod line;
 pub mod machine;
 pub mod number;
 pub mod refused;
 pub mod show;
-mod stretch;

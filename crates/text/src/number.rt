@@ -3,7 +3,7 @@ ghost use Rattle.std.specs.Prelude.{◌≡◌, ◌+◌, ◌*◌, ◌≤◌};
 ghost use Rattle.std.specs.Option.{option_and_then};
 ghost use Rattle.text.specs.Numbers.{fitting, read_digits, read_number};
 
-// Why a token gives no number.
+/// Why a token gives no number.
 #[derive(Clone, Copy, PartialEq, Eq, Debug)]
 pub enum NumberFault {
     // no digit, or a byte that is none
@@ -21,8 +21,8 @@ fn with_digit(value: Option<u32>, base: u32, digit: u32) -> Option<u32>
 
 // The number that digits of a base write.
 fn read_digits(digits: &[u8], base: u32) -> Result<u32, NumberFault>
-    requires low { 2 ≤ base }
-    requires high { base ≤ 16 }
+    requires at_least { 2 ≤ base }
+    requires at_most { base ≤ 16 }
     ensures { result ≡ read_digits base digits.now }
 {
     if digits.is_empty() {
@@ -37,7 +37,7 @@ fn read_digits(digits: &[u8], base: u32) -> Result<u32, NumberFault>
     value.ok_or(NumberFault::TooLarge)
 }
 
-// The number that a token writes.
+/// The number that a token writes.
 pub fn read_number(token: &[u8]) -> Result<u32, NumberFault>
     ensures { result ≡ read_number token.now }
 {

@@ -5,11 +5,11 @@ ghost use Rattle.text.specs.Digits.{refused_text, refused_at_text};
 use formats::refusal::{Placed, Refusal};
 use std::fmt;
 
-// A refusal, by the number of its question.
+/// A refusal, by the number of its question.
 #[derive(Clone, Copy, Drop, PartialEq, Eq, Debug)]
 pub struct Refused<R>(pub R);
 
-// A refusal with its place.
+/// A refusal with its place.
 #[derive(Clone, Copy, Drop, PartialEq, Eq, Debug)]
 pub struct RefusedAt<F>(pub Placed<F>);
 

@@ -7,7 +7,7 @@ use formats::instruction::Instruction;
 use formats::register::Register;
 use std::fmt;
 
-// What the console writes for a value.
+/// What the console writes for a value.
 #[derive(Clone, Copy, PartialEq, Eq, Debug)]
 pub struct Shown<T>(pub T);
 

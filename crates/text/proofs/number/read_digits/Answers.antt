@@ -18,7 +18,7 @@ loop-b-preserved c =
     let is : c.in_ok-digit.digit ≡ digit_value (get_or ds i 0) = search rules in
     let within : digit_value (get_or ds i 0) < base = search rules in
     let passes : is_digit (get_or ds i 0) base ≡ true = grind (arith, nat_tests) in
-    let stretch = prefix_len-drop_yes (λ b. is_digit b base) ds i 0 c.loop-b-test.true passes in
+    let run = prefix_len-drop_yes (λ b. is_digit b base) ds i 0 c.loop-b-test.true passes in
     record {
       digits = omega (arith, c.loop-b.invariant.digits);
       value =
@@ -35,7 +35,7 @@ returns-in_err-digit c =
     let i = c.loop-b.b-index in
     let over : base ≤ digit_value (get_or ds i 0) = search rules in
     let fails : is_digit (get_or ds i 0) base ≡ false = grind (arith, nat_tests) in
-    let stretch = prefix_len-drop_no (λ b. is_digit b base) ds i 0 c.loop-b-test.true fails in
+    let run = prefix_len-drop_no (λ b. is_digit b base) ds i 0 c.loop-b-test.true fails in
     let is : c.from_residual.result ≡ Err NoNumber = search rules in
     is ∙ no_digits base ds i c.loop-b-test.true (omega (arith, c.loop-b.invariant.digits))
 

@@ -1,27 +1,28 @@
-// Stretches of bytes of one class.
+// Classes of bytes.
 ghost use Rattle.std.specs.Prelude.{◌≡◌, ◌≤◌, length};
 ghost use Rattle.std.specs.List.{prefix_len};
 ghost use Rattle.text.specs.Lines.{in_class};
 
 // A class of bytes.
 #[derive(Clone, Copy, PartialEq, Eq, Debug)]
-pub enum Class {
+pub(crate) enum Class {
     // any byte but `#`
-    Plain,
+    NotHash,
     // space, tab or carriage return
     Blank,
     // any byte that is not blank
-    Solid,
+    NotBlank,
 }
 
 impl Class {
+    // Whether a byte is of the class.
     fn has(self, byte: u8) -> bool
         ensures { result ≡ in_class self byte }
     {
         match self {
-            Class::Plain => byte != b'#',
+            Class::NotHash => byte != b'#',
             Class::Blank => is_blank(byte),
-            Class::Solid => !is_blank(byte),
+            Class::NotBlank => !is_blank(byte),
         }
     }
 
@@ -34,6 +35,7 @@ impl Class {
     }
 }
 
+// Whether a byte is space, tab or carriage return.
 fn is_blank(byte: u8) -> bool
     ensures { result ≡ in_class Class.Blank byte }
 {

@@ -6,13 +6,14 @@ use crate::reason::Reason;
 use crate::words::Words;
 use model::call::Call;
 
-// Which core is moved.
+/// Which core is moved.
 #[derive(Clone, Copy, PartialEq, Eq, Debug)]
 pub enum Move {
     Step(usize),
     Turn,
 }
 
+/// A command to an engine.
 #[derive(Clone, Copy, PartialEq, Eq, Debug)]
 pub enum EngineCommand {
     // one call
@@ -25,6 +26,7 @@ pub enum EngineCommand {
     Tags(usize, usize),
     // shows a core
     Core(usize),
+    // shows who has the token
     Token,
 }
 

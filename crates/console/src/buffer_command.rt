@@ -1,7 +1,7 @@
 // The memory and the outlet that a line sets up for the next `make`.
-ghost use Rattle.console.specs.Buffers.{memory_said, outlet_said};
+ghost use Rattle.console.specs.Buffers.{memory_value, outlet_value};
 ghost use Rattle.console.specs.Parsing.{memory_of, zeros_of, outlet_of};
-ghost use Rattle.console.specs.Reasons.{Reads};
+ghost use Rattle.console.specs.Reasons.{ParsesAs};
 
 use crate::buffers::{MemoryBuffer, OutletBuffer};
 use crate::reason::{ParseError, Reason};
@@ -10,7 +10,7 @@ use std::alloc::Global;
 
 // The buffer that the words after `memory` say.
 pub(crate) fn memory_buffer(heap: Global, mut words: Words) -> Result<MemoryBuffer, ParseError>
-    ensures { Reads memory_said result (memory_of words.entry) }
+    ensures { ParsesAs memory_value result (memory_of words.entry) }
 {
     match words.name() {
         Some("words") => Ok(MemoryBuffer::Words(words.numbers(heap)?)),
@@ -24,7 +24,7 @@ pub(crate) fn memory_buffer(heap: Global, mut words: Words) -> Result<MemoryBuff
 
 // So many zero bytes as the only word says.
 fn zeros(heap: Global, mut words: Words) -> Result<OutletBuffer, ParseError>
-    ensures { Reads outlet_said result (zeros_of words.entry) }
+    ensures { ParsesAs outlet_value result (zeros_of words.entry) }
 {
     let size = words.times()?;
     words.end(())?;
@@ -33,7 +33,7 @@ fn zeros(heap: Global, mut words: Words) -> Result<OutletBuffer, ParseError>
 
 // The buffer that the words after `outlet` say.
 pub(crate) fn outlet_buffer(heap: Global, mut words: Words) -> Result<OutletBuffer, ParseError>
-    ensures { Reads outlet_said result (outlet_of words.entry) }
+    ensures { ParsesAs outlet_value result (outlet_of words.entry) }
 {
     match words.name() {
         Some("store") => Ok(words.end(OutletBuffer::Store)?),
