@@ -5,7 +5,7 @@ use Rattle.formats.specs.declared.answer.Answer.{Answer}
 use Rattle.model.specs.declared.refusal.StepRefusal.{StepRefusal}
 use Rattle.model.specs.Engine.{Engine}
 use Rattle.model.specs.Calls.{After, stays}
-use Rattle.console.specs.declared.engine_command.Move.{Move}
+use Rattle.console.specs.declared.command.Move.{Move}
 use Rattle.console.specs.declared.moves.Moved.{Moved}
 use Rattle.console.specs.Repeated.{moved, called, unless_refused, further_moves}
 

@@ -7,9 +7,9 @@ use Rattle.std.specs.Str.{bytes_eq}
 use Rattle.memory.specs.Bytes.{bytes_of as four_bytes}
 use Rattle.console.specs.declared.kind.Kind.{Kind}
 use Rattle.console.specs.declared.kind.Kind.TheVariants.{Instruction, Entry, Sent}
-use Rattle.console.specs.declared.engine_command.EngineCommand.{EngineCommand}
-use Rattle.console.specs.declared.engine_command.EngineCommand.TheVariants.{Call as One, Moves, Record, Tags, Core, Token}
-use Rattle.console.specs.declared.engine_command.Move.TheVariants.{Step as Steps, Turn as Turns}
+use Rattle.console.specs.declared.command.EngineCommand.{EngineCommand}
+use Rattle.console.specs.declared.command.EngineCommand.TheVariants.{Call as One, Moves, Record, Tags, Core, Token}
+use Rattle.console.specs.declared.command.Move.TheVariants.{Step as Steps, Turn as Turns}
 use Rattle.console.specs.declared.reason.Reason.{Reason}
 use Rattle.console.specs.declared.reason.Reason.TheVariants.{UnknownCommand, NotFiveBytes, UnknownKind}
 use Rattle.model.specs.declared.call.Call.TheVariants.{Step, Turn, Clear, Hold, Read, GiveBack, Take}

@@ -5,8 +5,8 @@ use Rattle.formats.specs.declared.answer.Answer.{Answer}
 use Rattle.model.specs.declared.refusal.StepRefusal.{StepRefusal}
 use Rattle.model.specs.Engine.{Engine}
 use Rattle.model.specs.Calls.{After, stays, step, turn}
-use Rattle.console.specs.declared.engine_command.Move.{Move}
-use Rattle.console.specs.declared.engine_command.Move.TheVariants.{Step, Turn}
+use Rattle.console.specs.declared.command.Move.{Move}
+use Rattle.console.specs.declared.command.Move.TheVariants.{Step, Turn}
 use Rattle.console.specs.ReplyTexts.{moved_reply}
 use Rattle.console.specs.declared.moves.Moved.{Moved}
 

@@ -19,8 +19,8 @@ use Rattle.model.specs.Runs.{reply, played}
 use Rattle.text.specs.Machines.{token_text}
 use Rattle.text.specs.Digits.{refused_text}
 use Rattle.text.specs.Texts.{sent_text}
-use Rattle.console.specs.declared.engine_command.EngineCommand.{EngineCommand}
-use Rattle.console.specs.declared.engine_command.EngineCommand.TheVariants.{Call, Moves, Record, Tags as TagsOf, Core, Token}
+use Rattle.console.specs.declared.command.EngineCommand.{EngineCommand}
+use Rattle.console.specs.declared.command.EngineCommand.TheVariants.{Call, Moves, Record, Tags as TagsOf, Core, Token}
 use Rattle.console.specs.ReplyTexts.{text_or_refusal, entry_reply, moved_reply, status_reply, spaced_text}
 use Rattle.console.specs.Repeated.{repeated, repeated_reply}
 

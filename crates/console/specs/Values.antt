@@ -6,7 +6,7 @@ use Rattle.console.specs.declared.command.Command.{Command}
 use Rattle.console.specs.declared.command.Command.TheVariants.{Packed, Memory, Outlet, Make, Engine}
 use Rattle.console.specs.declared.command.Settings.{Settings}
 use Rattle.console.specs.declared.kind.Kind.{Kind}
-use Rattle.console.specs.declared.engine_command.EngineCommand.{EngineCommand}
+use Rattle.console.specs.declared.command.EngineCommand.{EngineCommand}
 use Rattle.console.specs.declared.packed_command.PackedCommand.{PackedCommand}
 use Rattle.console.specs.declared.packed_command.PackedCommand.TheVariants.{Program, List as Listing, One, Image}
 

@@ -1,17 +1,17 @@
-// A line as a command.
+// A line as a command: one that needs no engine, or one to an engine.
 ghost use Rattle.std.specs.Prelude.{◌≡◌, IfOk};
 ghost use Rattle.std.specs.Option.{option_map};
-ghost use Rattle.console.specs.Parsing.{settings_of, named_of, command_of};
+ghost use Rattle.console.specs.Parsing.{settings_of, named_of, command_of, give_of, engine_of};
 ghost use Rattle.console.specs.Reasons.{ParsesAs};
 ghost use Rattle.console.specs.Values.{settings_value, command_value};
 
 use crate::buffer_command::{memory_buffer, outlet_buffer};
 use crate::buffers::{MemoryBuffer, OutletBuffer};
-use crate::engine_command::EngineCommand;
 use crate::kind::Kind;
 use crate::packed_command::PackedCommand;
 use crate::reason::{ParseError, Reason};
 use crate::words::{Words, as_name};
+use model::call::Call;
 use std::alloc::{AllocError, Global};
 
 /// A command of a scenario.
@@ -89,5 +89,86 @@ impl Command {
         };
         let name = as_name(word).ok_or(Reason::UnknownCommand)?;
         Ok(Some(Command::named(heap, name, words)?))
+    }
+}
+
+/// Which core is moved.
+#[derive(Clone, Copy, PartialEq, Eq, Debug)]
+pub enum Move {
+    Step(usize),
+    Turn,
+}
+
+/// A command to an engine.
+#[derive(Clone, Copy, PartialEq, Eq, Debug)]
+pub enum EngineCommand {
+    // one call
+    Call(Call),
+    // up to so many moves
+    Moves(Move, usize),
+    // shows the entry at a place
+    Record(usize),
+    // copies a core's tags to a list of so many places
+    Tags(usize, usize),
+    // shows a core
+    Core(usize),
+    // shows who has the token
+    Token,
+}
+
+impl EngineCommand {
+    // The command of a name and the words after it.
+    pub(crate) fn parse(name: &str, mut words: Words) -> Result<EngineCommand, Reason>
+        ensures { result ≡ engine_of name.now words.entry }
+    {
+        match name {
+            "step" => {
+                let core = words.place()?;
+                words.end(EngineCommand::Call(Call::Step(core)))
+            }
+            "turn" => words.end(EngineCommand::Call(Call::Turn)),
+            "steps" => {
+                let core = words.place()?;
+                let times = words.times()?;
+                words.end(EngineCommand::Moves(Move::Step(core), times))
+            }
+            "turns" => {
+                let times = words.times()?;
+                words.end(EngineCommand::Moves(Move::Turn, times))
+            }
+            "hold" => words.end(EngineCommand::Call(Call::Hold)),
+            "give" => give(words),
+            "read" => {
+                let address = words.place()?;
+                words.end(EngineCommand::Call(Call::Read(address)))
+            }
+            "take" => words.end(EngineCommand::Call(Call::Take)),
+            "clear" => words.end(EngineCommand::Call(Call::Clear)),
+            "record" => {
+                let place = words.place()?;
+                words.end(EngineCommand::Record(place))
+            }
+            "tags" => {
+                let core = words.place()?;
+                let places = words.times()?;
+                words.end(EngineCommand::Tags(core, places))
+            }
+            "core" => {
+                let core = words.place()?;
+                words.end(EngineCommand::Core(core))
+            }
+            "token" => words.end(EngineCommand::Token),
+            _ => Err(Reason::UnknownCommand),
+        }
+    }
+}
+
+// The command of the words after `give`.
+fn give(mut words: Words) -> Result<EngineCommand, Reason>
+    ensures { result ≡ give_of words.entry }
+{
+    match words.name() {
+        Some("back") => words.end(EngineCommand::Call(Call::GiveBack)),
+        _ => Err(Reason::UnknownCommand),
     }
 }

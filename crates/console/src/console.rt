@@ -5,8 +5,7 @@ ghost use Rattle.console.specs.Words.{words_of};
 ghost use Rattle.console.specs.Played.{nothing_set_up, Appends, IsSetUpOrDefault, IsSetUp, Answered, Explained, Played};
 
 use crate::buffers::{MemoryBuffer, OutletBuffer};
-use crate::command::{Command, Settings};
-use crate::engine_command::EngineCommand;
+use crate::command::{Command, EngineCommand, Settings};
 use crate::line::write_line;
 use crate::packed_answers;
 use crate::reason::{ParseError, Reason};

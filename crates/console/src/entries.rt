@@ -3,7 +3,7 @@ ghost use Rattle.std.specs.Prelude.{◌≡◌, ◌/◌, ◌%◌, length, IfOk, s
 ghost use Rattle.console.specs.ReplyTexts.{kind_bytes, reply_at};
 
 use crate::kind::Kind;
-use crate::reply_texts::{instruction_reply, record_reply, sent_reply};
+use crate::replies::{instruction_reply, record_reply, sent_reply};
 use codecs::packed_entry::PackedEntry;
 use codecs::packed_list;
 use formats::entry::{RecordEntry, SentEntry};

@@ -2,8 +2,8 @@
 ghost use Rattle.std.specs.Prelude.{◌≡◌, IfOk, string_bytes};
 ghost use Rattle.console.specs.Repeated.{moved, repeated, repeated_reply};
 
-use crate::engine_command::Move;
-use crate::reply_texts::moved_reply;
+use crate::command::Move;
+use crate::replies::moved_reply;
 use engine::engine::Hosted;
 use formats::answer::Answer;
 use memory::shared::Memory;

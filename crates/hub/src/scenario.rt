@@ -1,11 +1,10 @@
 // A scenario that is read line by line, and what it prints.
 use console::buffers::{MemoryBuffer, OutletBuffer};
+use console::command::EngineCommand;
 use console::console::{Console, EngineSetup, Next, write_reason, write_reply};
-use console::engine_command::EngineCommand;
 use console::line::write_line;
 use console::reason::Reason;
-use console::replies::command_reply;
-use console::reply_texts::made_reply;
+use console::replies::{command_reply, made_reply};
 use engine::engine::Hosted;
 use engine::settings::Settings;
 use memory::bytes::ByteMemory;

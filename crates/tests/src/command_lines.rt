@@ -1,6 +1,5 @@
 // Lines as commands, at the edges.
-use console::command::Command;
-use console::engine_command::{EngineCommand, Move};
+use console::command::{Command, EngineCommand, Move};
 use console::kind::Kind;
 use console::packed_command::PackedCommand;
 use console::reason::{ParseError, Reason};

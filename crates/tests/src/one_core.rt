@@ -29,7 +29,11 @@ enum Missing {
 }
 
 // A program and a token on some words, with four lines, an empty outlet and an empty record.
-fn shared(program: Program, token: Token, words: &mut [u32]) -> Shared<WordMemory<'_>, StoreOutlet> {
+fn shared(
+    program: Program,
+    token: Token,
+    words: &mut [u32],
+) -> Shared<WordMemory<'_>, StoreOutlet> {
     Shared {
         program,
         capacity: 4,
@@ -105,7 +109,10 @@ fn a_block_nests_255_deep(rt: HostRuntime) -> Result<(), Fail> {
     }
     assert_eq!(rt; core.status().depth, 255);
     let fault = Fault::TooDeep;
-    assert_eq!(rt; core.step(me, &mut shared)?.answer, Answer::Faulted { fault, pc: 0 });
+    assert_eq!(rt;
+        core.step(me, &mut shared)?.answer,
+        Answer::Faulted { fault, pc: 0 }
+    );
     assert_eq!(rt; core.status().state, State::Stopped);
     Ok(())
 }

@@ -2,7 +2,7 @@ use Rattle.std.proofs.Common.{◌≡◌, [], ◌∷◌, ◌++◌, take, IfSome, 
 use Rattle.std.proofs.lemmas.List.{take_more}
 use Rattle.console.specs.ReplyTexts.{spaced_values}
 use Rattle.console.proofs.Spaced.{appended, spaced_more}
-use Rattle.console.proofs.reply_texts.spaced.Goals as goal
+use Rattle.console.proofs.replies.spaced.Goals as goal
 
 pub loop-value-preserved : goal.loop-value-preserved
 loop-value-preserved g c =

@@ -1,6 +1,6 @@
 use Rattle.std.proofs.Common.{◌≡◌, take, IfSome, string_bytes}
 use Rattle.console.specs.ReplyTexts.{spaced_values}
-use Rattle.console.proofs.reply_texts.spaced.Given as goal
+use Rattle.console.proofs.replies.spaced.Given as goal
 
 abbrev pub invariant-loop-value : goal.invariant-loop-value
 invariant-loop-value g l =

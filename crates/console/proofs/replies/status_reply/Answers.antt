@@ -1,6 +1,6 @@
 use Rattle.std.proofs.Common.{string_bytes, rules}
 use Rattle.console.proofs.Spaced.{numbers_text}
-use Rattle.console.proofs.reply_texts.status_reply.Goals as goal
+use Rattle.console.proofs.replies.status_reply.Goals as goal
 
 pub returns : goal.returns
 returns c =
