@@ -8,7 +8,7 @@ copy=$(mktemp -d)
 trap 'rm -rf "$copy"' EXIT
 git init -q "$copy"
 tar cf - --exclude=incremental crates crates.txt | tar xf - -C "$copy"
-echo 'attempt: formats program memory outlet model laws cores engine' >> "$copy/crates.txt"
+echo 'attempt: arrayvec formats codecs memory outlet model laws cores engine' >> "$copy/crates.txt"
 passed=0
 failed=0
 for file in tools/pass-trials/*.txt; do
