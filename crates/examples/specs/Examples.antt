@@ -1,5 +1,5 @@
 -- The engine's worked examples: four small programs and what their runs answer.
---   steps_of, Says                                               calls, and what they answer
+--   steps_of, AnswersAre                                         calls, and what they answer
 --   mean_program, load_program, counter_program, pair_program    the programs
 --   Examples                                                     what their runs answer
 -- Assumes nothing.
@@ -29,8 +29,8 @@ abbrev pub answers : List Answer → List Reply
 answers = map (λ a. Stepped (Ok a))
 
 -- steps of an engine answer this
-abbrev pub Says : Engine → List Call → List Answer → Type 0
-Says e cs xs = replies e cs ≡ answers xs
+abbrev pub AnswersAre : Engine → List Call → List Answer → Type 0
+AnswersAre e cs xs = replies e cs ≡ answers xs
 
 -- the mean of 3 and 4
 abbrev pub mean_program : List Instruction
@@ -57,20 +57,20 @@ alone p m = engine_of p (0 ∷ []) 1 m 0
 abbrev pub counters : Engine
 counters = engine_of counter_program (0 ∷ 0 ∷ []) 4 (0 ∷ []) 0
 
--- they count in turn, and the second falls back
+-- they count in turn, and the second rolls back
 abbrev pub counter_run : List Call
 counter_run = steps_of 0 5 ++ steps_of 1 5 ++ Step 0 ∷ Step 1 ∷ Step 0 ∷ Step 1 ∷ []
 
 -- all four examples
 pub record Examples : Type 0 where
   -- the mean of 3 and 4 is 3
-  pub mean : Says (alone mean_program (0 ∷ [])) (steps_of 0 3) (Done ∷ Done ∷ Done ∷ [])
-  pub meant : word_in (plays (alone mean_program (0 ∷ [])) (steps_of 0 3)) 0 R3 ≡ 3
+  pub mean : AnswersAre (alone mean_program (0 ∷ [])) (steps_of 0 3) (Done ∷ Done ∷ Done ∷ [])
+  pub mean_word : word_in (plays (alone mean_program (0 ∷ [])) (steps_of 0 3)) 0 R3 ≡ 3
   -- a load at 4,294,967,295 + 1 faults 1
-  pub load : Says (alone load_program (0 ∷ [])) (steps_of 0 3) (Done ∷ Done ∷ Faulted AddressOutside 2 ∷ [])
+  pub load : AnswersAre (alone load_program (0 ∷ [])) (steps_of 0 3) (Done ∷ Done ∷ Faulted AddressOutside 2 ∷ [])
   -- two cores count
-  pub count : Says counters counter_run (replicate 10 Running ++ Committing ∷ Waiting ∷ Done ∷ RolledBack ∷ [])
+  pub count : AnswersAre counters counter_run (replicate 10 Running ++ Committing ∷ Waiting ∷ Done ∷ RolledBack ∷ [])
   pub counted : (plays counters counter_run).entries ≡ entry_of 0 Completed 6 ∷ []
   -- one line is too few for two words
-  pub pair : Says (alone pair_program (0 ∷ 0 ∷ [])) (steps_of 0 5) (Running ∷ Running ∷ Early ∷ Running ∷ Done ∷ [])
+  pub pair : AnswersAre (alone pair_program (0 ∷ 0 ∷ [])) (steps_of 0 5) (Running ∷ Running ∷ Early ∷ Running ∷ Done ∷ [])
   pub paired : (plays (alone pair_program (0 ∷ 0 ∷ [])) (steps_of 0 5)).entries ≡ entry_of 0 Completed 4 ∷ []

@@ -23,13 +23,13 @@ use Rattle.examples.specs.Values.{entry_of, at_rest, in_block, settings_of, engi
 abbrev pub sized : (cores lines instructions : ℕ) → Settings
 sized cores lines instructions = settings_of (replicate instructions Halt) (replicate cores 0) lines
 
--- an engine of two cores at one instruction, with the token somewhere and so many entries in the record
+-- an engine of two cores at one instruction, with a token and so many entries in the record
 abbrev pub two_cores : Instruction → Core → Token → (entries : ℕ) → Engine
 two_cores i c t n = engine_with (i ∷ Halt ∷ []) (c ∷ at_rest ∷ []) t (replicate n (entry_of 0 Completed 1))
 
 -- what a step of the first of them answers
-abbrev pub says : Instruction → Core → Token → (entries : ℕ) → Result Answer StepRefusal
-says i c t n = (step (two_cores i c t n) 0).answer
+abbrev pub answer_of : Instruction → Core → Token → (entries : ℕ) → Result Answer StepRefusal
+answer_of i c t n = (step (two_cores i c t n) 0).answer
 
 -- an instruction that has no fault of its own
 abbrev pub plain : Instruction
@@ -46,16 +46,16 @@ pub record Limits : Type 0 where
   pub no_word : check (sized 8 32 512) 0 ≡ Err MemoryLength
   pub no_place : check (sized 1 1 0) 1 ≡ Err EntryOutside
   -- a block performs 4,096 instructions and no more
-  pub last_instruction : says plain (in_block 1 4095) Free 0 ≡ Ok Running
-  pub too_long : says plain (in_block 1 4096) Free 0 ≡ Ok (Faulted TooLong 0)
-  pub end_too_long : says End (in_block 1 4096) Free 0 ≡ Ok (Faulted TooLong 0)
+  pub last_instruction : answer_of plain (in_block 1 4095) Free 0 ≡ Ok Running
+  pub too_long : answer_of plain (in_block 1 4096) Free 0 ≡ Ok (Faulted TooLong 0)
+  pub end_too_long : answer_of End (in_block 1 4096) Free 0 ≡ Ok (Faulted TooLong 0)
   pub last_end : (step (two_cores End (in_block 1 4095) Free 0) 0).engine.entries ≡ entry_of 0 Completed 4096 ∷ []
   -- a block has 255 open BEGINs and no more
-  pub last_begin : says Begin (in_block 254 300) Free 0 ≡ Ok Running
-  pub too_deep : says Begin (in_block 255 300) Free 0 ≡ Ok (Faulted TooDeep 0)
+  pub last_begin : answer_of Begin (in_block 254 300) Free 0 ≡ Ok Running
+  pub too_deep : answer_of Begin (in_block 255 300) Free 0 ≡ Ok (Faulted TooDeep 0)
   -- the record has 1,024 entries; while another core has the token, one is kept for it
-  pub last_entry : says plain at_rest Free 1023 ≡ Ok Done
-  pub full : says plain at_rest Free 1024 ≡ Err RecordFull
-  pub host_holds : says plain at_rest Host 1023 ≡ Ok Done
-  pub kept_for_other : says plain at_rest (CoreHas 1) 1023 ≡ Err RecordFull
-  pub two_left : says plain at_rest (CoreHas 1) 1022 ≡ Ok Done
+  pub last_entry : answer_of plain at_rest Free 1023 ≡ Ok Done
+  pub full : answer_of plain at_rest Free 1024 ≡ Err RecordFull
+  pub host_holds : answer_of plain at_rest Host 1023 ≡ Ok Done
+  pub kept_for_other : answer_of plain at_rest (CoreHas 1) 1023 ≡ Err RecordFull
+  pub two_left : answer_of plain at_rest (CoreHas 1) 1022 ≡ Ok Done

@@ -21,7 +21,7 @@ use Rattle.model.specs.Engine.{Engine}
 use Rattle.model.specs.Runs.{replies}
 use Rattle.model.specs.Traces.{Run}
 use Rattle.examples.specs.Values.{entry_of, settled_of, stopped_of, machine_of, engine_of, run_of, explained, is_open, taken_of, held_of}
-use Rattle.examples.specs.Examples.{steps_of, answers, Says, pair_program, alone, counters, counter_run}
+use Rattle.examples.specs.Examples.{steps_of, answers, AnswersAre, pair_program, alone, counters, counter_run}
 
 -- the two cores that count, after so many calls of their run
 abbrev pub counting : ℕ → Run
@@ -29,9 +29,9 @@ counting n = run_of counters (take n counter_run)
 
 -- core 1 waits with its block open; core 0 writes the word that this block has taken; core 1 rolls back, and its block is closed
 pub record RollsBack : Type 0 where
-  pub before : Says (counting 12).engine (Step 1 ∷ []) (Waiting ∷ [])
+  pub before : AnswersAre (counting 12).engine (Step 1 ∷ []) (Waiting ∷ [])
   pub opened : is_open 1 (counting 13) ≡ true
-  pub answer : Says (counting 13).engine (Step 1 ∷ []) (RolledBack ∷ [])
+  pub answer : AnswersAre (counting 13).engine (Step 1 ∷ []) (RolledBack ∷ [])
   pub after : is_open 1 (run_of counters counter_run) ≡ false
   pub machine : explained (run_of counters counter_run) ≡ some (machine_of (1 ∷ []) [] (settled_of 6 0 1 1 ∷ settled_of 0 0 0 0 ∷ []))
 
@@ -41,7 +41,7 @@ pair = alone pair_program (8 ∷ 9 ∷ [])
 
 -- it takes the token early and is explained as one unit of four instructions
 pub record CommitsEarly : Type 0 where
-  pub answer : Says pair (steps_of 0 5) (Running ∷ Running ∷ Early ∷ Running ∷ Done ∷ [])
+  pub answer : AnswersAre pair (steps_of 0 5) (Running ∷ Running ∷ Early ∷ Running ∷ Done ∷ [])
   pub record_is : (run_of pair (steps_of 0 5)).engine.entries ≡ entry_of 0 Completed 4 ∷ []
   pub machine : explained (run_of pair (steps_of 0 5)) ≡ some (machine_of (8 ∷ 9 ∷ []) [] (settled_of 4 0 8 9 ∷ []))
 
@@ -51,7 +51,7 @@ outside = alone (Load R1 R0 (immediate_of 1) ∷ Halt ∷ []) (5 ∷ [])
 
 -- it faults at once, and its entry counts no instruction
 pub record FaultsPlain : Type 0 where
-  pub answer : Says outside (steps_of 0 1) (Faulted AddressOutside 0 ∷ [])
+  pub answer : AnswersAre outside (steps_of 0 1) (Faulted AddressOutside 0 ∷ [])
   pub record_is : (run_of outside (steps_of 0 1)).engine.entries ≡ entry_of 0 Discarded 0 ∷ []
   pub machine : explained (run_of outside (steps_of 0 1)) ≡ some (machine_of (5 ∷ []) [] (stopped_of 0 0 0 0 ∷ []))
 
@@ -65,7 +65,7 @@ discarding = alone (Begin ∷ wipe ∷ Halt ∷ []) (5 ∷ [])
 
 -- it faults, and its store is gone
 pub record FaultsDiscarded : Type 0 where
-  pub answer : Says discarding (steps_of 0 3) (Running ∷ Running ∷ Faulted HaltInBlock 2 ∷ [])
+  pub answer : AnswersAre discarding (steps_of 0 3) (Running ∷ Running ∷ Faulted HaltInBlock 2 ∷ [])
   pub record_is : (run_of discarding (steps_of 0 3)).engine.entries ≡ entry_of 0 Discarded 2 ∷ []
   pub machine : explained (run_of discarding (steps_of 0 3)) ≡ some (machine_of (5 ∷ []) [] (stopped_of 2 0 0 0 ∷ []))
 
@@ -75,7 +75,7 @@ keeping = alone (Begin ∷ wipe ∷ EarlyToken ∷ Halt ∷ []) (5 ∷ [])
 
 -- it faults, and its store stays
 pub record FaultsKept : Type 0 where
-  pub answer : Says keeping (steps_of 0 6) (Running ∷ Running ∷ Early ∷ Early ∷ Running ∷ Faulted HaltInBlock 3 ∷ [])
+  pub answer : AnswersAre keeping (steps_of 0 6) (Running ∷ Running ∷ Early ∷ Early ∷ Running ∷ Faulted HaltInBlock 3 ∷ [])
   pub record_is : (run_of keeping (steps_of 0 6)).engine.entries ≡ entry_of 0 Kept 3 ∷ []
   pub machine : explained (run_of keeping (steps_of 0 6)) ≡ some (machine_of (0 ∷ []) [] (stopped_of 3 0 0 0 ∷ []))
 

@@ -10,7 +10,7 @@ use std::io;
 use std::rt::Env;
 
 // The longest argument that is taken for a file's name.
-const LONGEST: usize = 4096;
+const LONGEST_NAME: usize = 4096;
 
 // Reports a scenario that could not be read, or not to its end.
 fn report(rt: &HostRuntime, name: &str, end: io::Result<()>) -> io::Result<()> {
@@ -35,7 +35,7 @@ fn play_file(rt: &HostRuntime, name: &[u8]) -> io::Result<()> {
 
 // Plays the file that argument i names. Answers whether there is such an argument.
 fn play_argument(rt: &HostRuntime, i: usize) -> io::Result<bool> {
-    let mut name = [0u8; LONGEST];
+    let mut name = [0u8; LONGEST_NAME];
     match rt.arg(i, &mut name) {
         Ok(len) => play_file(rt, &name[..len])?,
         Err(FillError::TooLong) => eprintln!(rt; "hub: argument {i}: the name is too long")?,

@@ -16,42 +16,43 @@ use outlet::waiting::Outlet;
 use std::io;
 use std::io::{BufRead, BufReader, Read, Write};
 
-// Output is written at the latest when this much has come together.
-const ENOUGH: usize = 65536;
+// How many bytes of output are collected before they are written.
+const FLUSH_AT: usize = 65_536;
 
-// A form of outlet that stands on bytes. The checker covers no call that hands one to generic code, so generic code makes it.
-trait Over<'b> {
+// A form of outlet that stands on a buffer. The checker covers no call that hands one to generic code, so generic code makes it.
+trait OutletForm<'b> {
     type Form: Outlet + Drop;
 
-    fn over(bytes: &'b mut [u8]) -> Self::Form;
+    fn make(buffer: &'b mut [u8]) -> Self::Form;
 }
 
-struct OverBytes;
+struct ByteForm;
 
-impl<'b> Over<'b> for OverBytes {
+impl<'b> OutletForm<'b> for ByteForm {
     type Form = ByteOutlet<'b>;
 
-    fn over(bytes: &'b mut [u8]) -> ByteOutlet<'b> {
-        ByteOutlet::new(bytes)
+    fn make(buffer: &'b mut [u8]) -> ByteOutlet<'b> {
+        ByteOutlet::new(buffer)
     }
 }
 
+// A scenario that is being played: where its lines come from, what it has set up, and its output.
 #[derive(Drop)]
-pub struct Scenario<'a, R: Read> {
+pub(crate) struct Scenario<'a, R: Read> {
     rt: &'a HostRuntime,
     reader: BufReader<R>,
     console: Console,
     // the line that is played
     line: Vec<u8>,
-    // what is to be written
+    // the output that is still to be written
     out: Vec<u8>,
     // how reading ended
     end: io::Result<()>,
 }
 
 impl<'a, R: Read + Drop> Scenario<'a, R> {
-    /// Plays a scenario from its beginning. The inner Err is a failed read, which ends it.
-    pub fn play(rt: &'a HostRuntime, source: R) -> io::Result<io::Result<()>> {
+    // Plays a scenario from its beginning. The inner Err is a failed read, which ends it.
+    pub(crate) fn play(rt: &'a HostRuntime, source: R) -> io::Result<io::Result<()>> {
         let heap = rt.alloc();
         let mut scenario = Scenario {
             rt,
@@ -69,12 +70,12 @@ impl<'a, R: Read + Drop> Scenario<'a, R> {
             };
             setup = scenario.play_engine(made)?;
         }
-        scenario.write_out()?;
+        scenario.flush()?;
         Ok(scenario.end)
     }
 
-    // Writes what has come together.
-    fn write_out(&mut self) -> io::Result<()> {
+    // Writes the output that was collected.
+    fn flush(&mut self) -> io::Result<()> {
         self.rt.stdout().write_all(self.out.as_slice())?;
         self.out.clear();
         Ok(())
@@ -82,8 +83,8 @@ impl<'a, R: Read + Drop> Scenario<'a, R> {
 
     // Reads the next line. Answers whether there is one.
     fn next_line(&mut self) -> io::Result<bool> {
-        if self.out.len() >= ENOUGH || self.reader.buffer().is_empty() {
-            self.write_out()?;
+        if self.out.len() >= FLUSH_AT || self.reader.buffer().is_empty() {
+            self.flush()?;
         }
         self.line.clear();
         match self.reader.read_until(b'\n', &mut self.line) {
@@ -146,6 +147,7 @@ impl<'a, R: Read + Drop> Scenario<'a, R> {
         }
     }
 
+    // The same over a memory.
     fn play_memory<M: Memory + Drop>(
         &mut self,
         settings: Settings<'_>,
@@ -158,19 +160,19 @@ impl<'a, R: Read + Drop> Scenario<'a, R> {
         match outlet {
             OutletBuffer::Store => self.play_outlet(settings, memory, StoreOutlet::new()),
             OutletBuffer::Bytes(mut bytes) => {
-                self.play_over::<M, OverBytes>(settings, memory, bytes.as_mut_slice())
+                self.play_buffer::<M, ByteForm>(settings, memory, bytes.as_mut_slice())
             }
         }
     }
 
     // The same with an outlet over a buffer.
-    fn play_over<'b, M: Memory + Drop, V: Over<'b>>(
+    fn play_buffer<'b, M: Memory + Drop, F: OutletForm<'b>>(
         &mut self,
         settings: Settings<'_>,
         memory: M,
         buffer: &'b mut [u8],
     ) -> io::Result<Option<EngineSetup>> {
-        self.play_outlet(settings, memory, V::over(buffer))
+        self.play_outlet(settings, memory, F::make(buffer))
     }
 
     // Plays lines on an engine. Whatever ends that, the token is given back before the engine is let go.

@@ -8,7 +8,7 @@ use std::alloc::Global;
 use std::test::Fail;
 
 // Why a line is not understood, if it is not.
-fn why(heap: Global, text: &[u8]) -> Option<Reason> {
+fn reason_of(heap: Global, text: &[u8]) -> Option<Reason> {
     match Command::parse(heap, text) {
         Err(ParseError::NotUnderstood(reason)) => Some(reason),
         _ => None,
@@ -34,13 +34,13 @@ fn a_blank_line_is_no_command(rt: HostRuntime) -> Result<(), Fail> {
 #[test]
 fn the_first_word_that_does_not_fit_decides(rt: HostRuntime) {
     let heap = rt.alloc();
-    assert_eq!(rt; why(heap, b"Step 0"), Some(Reason::UnknownCommand));
-    assert_eq!(rt; why(heap, b"steps x"), Some(Reason::NoNumber));
-    assert_eq!(rt; why(heap, b"steps 1"), Some(Reason::MissingWord));
-    assert_eq!(rt; why(heap, b"turn 1"), Some(Reason::ExtraWord));
-    assert_eq!(rt; why(heap, b"step 4294967296"), Some(Reason::NumberTooLarge));
-    assert_eq!(rt; why(heap, b"image tag x"), Some(Reason::UnknownKind));
-    assert_eq!(rt; why(heap, b"memory"), Some(Reason::UnknownCommand));
+    assert_eq!(rt; reason_of(heap, b"Step 0"), Some(Reason::UnknownCommand));
+    assert_eq!(rt; reason_of(heap, b"steps x"), Some(Reason::NoNumber));
+    assert_eq!(rt; reason_of(heap, b"steps 1"), Some(Reason::MissingWord));
+    assert_eq!(rt; reason_of(heap, b"turn 1"), Some(Reason::ExtraWord));
+    assert_eq!(rt; reason_of(heap, b"step 4294967296"), Some(Reason::NumberTooLarge));
+    assert_eq!(rt; reason_of(heap, b"image tag x"), Some(Reason::UnknownKind));
+    assert_eq!(rt; reason_of(heap, b"memory"), Some(Reason::UnknownCommand));
 }
 
 #[test]
@@ -51,7 +51,7 @@ fn times_end_at_65_536(rt: HostRuntime) -> Result<(), Fail> {
         return Ok(());
     };
     assert_eq!(rt; times, 65_536);
-    assert_eq!(rt; why(heap, b"turns 65537"), Some(Reason::NumberTooLarge));
+    assert_eq!(rt; reason_of(heap, b"turns 65537"), Some(Reason::NumberTooLarge));
     Ok(())
 }
 
@@ -67,8 +67,8 @@ fn a_sent_entry_has_five_bytes(rt: HostRuntime) -> Result<(), Fail> {
         return Ok(());
     };
     assert_eq!(rt; bytes.as_slice(), &[0xC8, 0, 0, 0, 1][..]);
-    assert_eq!(rt; why(heap, b"sent C8 00"), Some(Reason::NotFiveBytes));
-    assert_eq!(rt; why(heap, b"sent C80000000100"), Some(Reason::NotFiveBytes));
+    assert_eq!(rt; reason_of(heap, b"sent C8 00"), Some(Reason::NotFiveBytes));
+    assert_eq!(rt; reason_of(heap, b"sent C80000000100"), Some(Reason::NotFiveBytes));
     Ok(())
 }
 
@@ -79,8 +79,8 @@ fn give_wants_back(rt: HostRuntime) -> Result<(), Fail> {
         assert!(rt; false);
         return Ok(());
     };
-    assert_eq!(rt; why(heap, b"give"), Some(Reason::UnknownCommand));
-    assert_eq!(rt; why(heap, b"give up"), Some(Reason::UnknownCommand));
-    assert_eq!(rt; why(heap, b"give back now"), Some(Reason::ExtraWord));
+    assert_eq!(rt; reason_of(heap, b"give"), Some(Reason::UnknownCommand));
+    assert_eq!(rt; reason_of(heap, b"give up"), Some(Reason::UnknownCommand));
+    assert_eq!(rt; reason_of(heap, b"give back now"), Some(Reason::ExtraWord));
     Ok(())
 }

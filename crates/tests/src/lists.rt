@@ -15,7 +15,7 @@ fn whole_entries_are_counted_and_the_rest_is_spare(rt: HostRuntime) {
 }
 
 #[test]
-fn the_place_is_asked_for_before_the_entry(rt: HostRuntime) {
+fn a_place_outside_is_refused_before_its_bytes(rt: HostRuntime) {
     let bytes = [0x18, 0, 0, 0, 0xB0, 0, 0x10, 0, 0xFF];
     assert!(rt;
         get::<RecordEntry>(&bytes, 0)

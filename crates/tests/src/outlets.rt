@@ -13,7 +13,7 @@ fn entry(code: u64) -> SentEntry {
 }
 
 #[test]
-fn the_store_has_room_for_64_and_goes_round(rt: HostRuntime) {
+fn the_store_has_room_for_64_and_wraps_around(rt: HostRuntime) {
     let mut outlet = StoreOutlet::new();
     assert_eq!(rt; outlet.take(), Err(NothingWaits));
     for word in 0..64u64 {
@@ -43,7 +43,7 @@ fn four_bytes_hold_no_entry(rt: HostRuntime) {
 }
 
 #[test]
-fn bytes_hold_whole_entries_and_go_round(rt: HostRuntime) {
+fn bytes_hold_whole_entries_and_wrap_around(rt: HostRuntime) {
     let mut bytes = [9; 11];
     {
         let mut outlet = ByteOutlet::new(&mut bytes);

@@ -37,7 +37,7 @@ fn every_opcode_comes_back_with_its_largest_fields(rt: HostRuntime) -> Result<()
 }
 
 #[test]
-fn the_opcode_is_asked_for_before_the_fields(rt: HostRuntime) {
+fn an_unknown_opcode_is_refused_before_the_fields(rt: HostRuntime) {
     assert!(rt; Instruction::unpack(0x78000000) == Err(InstructionFault::UnknownOpcode));
     assert!(rt; Instruction::unpack(0xFFFFFFFF) == Err(InstructionFault::UnknownOpcode));
     assert!(rt; Instruction::unpack(0x50000001) == Err(InstructionFault::BadField));
