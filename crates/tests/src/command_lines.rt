@@ -38,7 +38,10 @@ fn the_first_word_that_does_not_fit_decides(rt: HostRuntime) {
     assert_eq!(rt; reason_of(heap, b"steps x"), Some(Reason::NoNumber));
     assert_eq!(rt; reason_of(heap, b"steps 1"), Some(Reason::MissingWord));
     assert_eq!(rt; reason_of(heap, b"turn 1"), Some(Reason::ExtraWord));
-    assert_eq!(rt; reason_of(heap, b"step 4294967296"), Some(Reason::NumberTooLarge));
+    assert_eq!(rt;
+        reason_of(heap, b"step 4294967296"),
+        Some(Reason::NumberTooLarge)
+    );
     assert_eq!(rt; reason_of(heap, b"image tag x"), Some(Reason::UnknownKind));
     assert_eq!(rt; reason_of(heap, b"memory"), Some(Reason::UnknownCommand));
 }
@@ -51,7 +54,10 @@ fn times_end_at_65_536(rt: HostRuntime) -> Result<(), Fail> {
         return Ok(());
     };
     assert_eq!(rt; times, 65_536);
-    assert_eq!(rt; reason_of(heap, b"turns 65537"), Some(Reason::NumberTooLarge));
+    assert_eq!(rt;
+        reason_of(heap, b"turns 65537"),
+        Some(Reason::NumberTooLarge)
+    );
     Ok(())
 }
 
@@ -68,7 +74,10 @@ fn a_sent_entry_has_five_bytes(rt: HostRuntime) -> Result<(), Fail> {
     };
     assert_eq!(rt; bytes.as_slice(), &[0xC8, 0, 0, 0, 1][..]);
     assert_eq!(rt; reason_of(heap, b"sent C8 00"), Some(Reason::NotFiveBytes));
-    assert_eq!(rt; reason_of(heap, b"sent C80000000100"), Some(Reason::NotFiveBytes));
+    assert_eq!(rt;
+        reason_of(heap, b"sent C80000000100"),
+        Some(Reason::NotFiveBytes)
+    );
     Ok(())
 }
 
