@@ -18,10 +18,10 @@ use Rattle.model.specs.Traces.{Run}
 use Rattle.model.specs.Laws.{RollBackAt}
 use Rattle.laws.proofs.Invariant.{Known, Open, Inv}
 
-told :
+answered :
     (st : State) (s : Shared) (i : ℕ) (c : Core) (b : Option (List Move)) → Known st i b c →
     ((step_by_state st s i c).answer ≡ RolledBack) ↔ Open b (Hit i)
-told st s i c b k = grind arith
+answered st s i c b k = grind arith
 
 -- a core that was seen to move gave the answer of its step
 seen :
@@ -34,4 +34,4 @@ seen e _ i action answer x v = grind arith
 pub roll_back_at : (r : Run) → Inv r.engine r.trace → RollBackAt r
 roll_back_at r h c i action answer x v =
     let e = r.engine in
-    rw (seen e c i action answer x v) at (told (core_at e i).state (shared e) i (core_at e i) (block i r.trace.moves) (h.known i))
+    rw (seen e c i action answer x v) at (answered (core_at e i).state (shared e) i (core_at e i) (block i r.trace.moves) (h.known i))

@@ -44,8 +44,8 @@ pub record Explained (r : Run) : Type 0 where
   -- the entries taken since the clearing, then those waiting, are those waiting at the clearing, then those sent
   pub sent : r.trace.taken ++ r.engine.outlet.waiting ≡ r.trace.waiting ++ machine.sent
 
--- observed: an event tells every word that a call writes and every entry that it sends or takes
-pub record Told (r : Run) (c : Call) : Type 0 where
+-- an event accounts for every word that a call writes and every entry that it sends or takes
+pub record Accounted (r : Run) (c : Call) : Type 0 where
   pub memory : (played r.engine c).memory ≡ memory_seen (event r.engine c) r.engine.memory
   pub outlet :
       taken_in (event r.engine c) ++ (played r.engine c).outlet.waiting
@@ -53,7 +53,7 @@ pub record Told (r : Run) (c : Call) : Type 0 where
 
 -- the same of every call
 abbrev pub ObservedAt : Run → Type 0
-ObservedAt r = (c : Call) → Told r c
+ObservedAt r = (c : Call) → Accounted r c
 
 -- serial: whenever no core has the token, the record explains the engine
 abbrev pub SerialAt : Run → Type 0
