@@ -1,6 +1,6 @@
 -- What a line that was found tells of the lines, and lines that stay at different addresses.
 -- Assumes nothing.
-use Rattle.std.proofs.Common.{◌≡◌, ℕ, zero, suc, ◌+◌, ◌<◌, Bool, true, false, cond, ltb, eqb, ◌&&◌, List, [], ◌∷◌, ◌++◌, length, get_or}
+use Rattle.std.proofs.Common.{◌≡◌, ℕ, zero, suc, ◌+◌, ◌<◌, Bool, false, cond, ltb, eqb, List, [], ◌∷◌, ◌++◌, length}
 use Rattle.std.proofs.Common.{set, Some, None, Option, MatchOption, sym, refl, ap, ◌∙◌, subst, inl, inr, arith, lt-ltb, le-ltb}
 use Rattle.std.proofs.Common.{length-set}
 use Rattle.std.specs.List.{position, position_or_len}
@@ -10,8 +10,8 @@ use Rattle.arrayvec.specs.ArrayVec.{ArrayVec, with_items}
 use Rattle.arrayvec.proofs.ArrayVecLemmas.{items-with_items}
 use Rattle.model.specs.declared.line.Line.{Line}
 use Rattle.model.specs.declared.effect.Effect.TheVariants.{Nothing, Wrote}
-use Rattle.model.specs.Lines.{has_line, value_at, store_at, next_write, after_write, Distinct}
-use Rattle.cores.specs.Buffers.{line_at, restored, dirty_index, LineOf}
+use Rattle.model.specs.Lines.{has_line, next_write, after_write, Distinct}
+use Rattle.cores.specs.Buffers.{line_at, dirty_index, LineOf}
 
 -- one place further on
 abbrev later : Option ℕ → Option ℕ

@@ -1,7 +1,7 @@
 -- A core of the code as the model's.
 --   core_of  the core, of a struct's fields;  Bounded  what is true of them
 -- Assumes nothing.
-use Rattle.std.specs.Prelude.{ℕ, ◌≤◌}
+use Rattle.std.specs.Prelude.{◌≤◌}
 use Rattle.model.specs.Cores.{Core as ModelCore}
 use Rattle.cores.specs.Bounds.{pc_most, count_most}
 use Rattle.cores.specs.declared.state_machine.Core.TheInside.{Inside}

@@ -1,7 +1,7 @@
 -- Where an instruction leads stays inside a program of 512 instructions.
 --   Onward       by what it asks for;  OnwardInBlock  by what it comes to inside a block
 -- Assumes nothing.
-use Rattle.std.specs.Prelude.{◌≡◌, ℕ, ◌<◌, ◌≤◌, Bool, false, Ok, Err}
+use Rattle.std.specs.Prelude.{◌≡◌, ℕ, ◌<◌, ◌≤◌, false, Ok, Err}
 use Rattle.formats.specs.declared.bounds.TheConstants.{MOST_PERFORMED}
 use Rattle.model.specs.declared.action.Operation.{Operation}
 use Rattle.model.specs.declared.action.Operation.TheVariants.{Jumps}

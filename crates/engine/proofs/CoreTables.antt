@@ -1,7 +1,7 @@
 -- Broadcasting a write to the other cores, one core after the other; and new cores, one after the other.
 -- Assumes nothing.
 use Rattle.std.proofs.Common.{◌≡◌, ℕ, zero, suc, ◌+◌, ◌<◌, ◌≤◌, true, ltb, List, [], ◌∷◌, ◌++◌, map, length, get_or, take, drop, set}
-use Rattle.std.proofs.Common.{sym, refl, ap, ◌∙◌, append_assoc, append-nil, le_of_suc-le-suc, arith, length-take-le, take_all, le-ltb}
+use Rattle.std.proofs.Common.{sym, refl, ap, ◌∙◌, append_assoc, append-nil, le_of_suc-le-suc, arith, length-take-le, take_all}
 use lib.Seq.{set_at, get_or_at}
 use Rattle.std.proofs.lemmas.List.{length-map, take_more, drop_more, drop_all, get_or-map}
 use Rattle.std.proofs.lemmas.Bool.{and_parts}

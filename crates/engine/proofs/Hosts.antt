@@ -1,6 +1,6 @@
 -- A step leaves the token with the host, and does not give it to the host.
 -- Assumes nothing.
-use Rattle.std.proofs.Common.{◌≡◌, ℕ, Bool, arith}
+use Rattle.std.proofs.Common.{◌≡◌, ℕ, arith}
 use Rattle.std.proofs.lemmas.Bool.Decides.{nat_tests}
 use Rattle.model.specs.declared.state.State.{State}
 use Rattle.model.specs.Cores.{Core, Shared, step_by_state}

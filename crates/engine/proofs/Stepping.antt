@@ -1,6 +1,6 @@
 -- What an engine is once one of its cores has tried a step, and the others know of its write: that is the model's step.
 -- Assumes nothing.
-use Rattle.std.proofs.Common.{◌≡◌, ℕ, ◌<◌, List, [], ◌∷◌, map, length, get_or, set, Some, None, Option, Ok, Err, refl, sym, ap, ◌∙◌, lt-ltb}
+use Rattle.std.proofs.Common.{◌≡◌, ℕ, ◌<◌, List, [], ◌∷◌, map, length, get_or, set, Some, None, Option, Ok, Err, refl, ap, lt-ltb}
 use Rattle.std.proofs.lemmas.List.{set-get_or}
 use Rattle.model.specs.declared.effect.Effect.{Effect}
 use Rattle.model.specs.declared.effect.Effect.TheVariants.{Nothing, Wrote, Sent}

@@ -1,5 +1,4 @@
-use Rattle.std.proofs.Common.{◌≡◌, ap, sym, arith}
-use Rattle.formats.specs.Records.{entry}
+use Rattle.std.proofs.Common.{◌≡◌, sym, arith}
 use Rattle.formats.proofs.Records.{entry_again}
 use Rattle.cores.proofs.shared.entry_of.Goals as goal
 

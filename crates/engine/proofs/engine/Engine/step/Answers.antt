@@ -1,4 +1,4 @@
-use Rattle.std.proofs.Common.{◌≡◌, ℕ, ◌<◌, length, get_or, List, None, rules, arith, ap, ◌∙◌}
+use Rattle.std.proofs.Common.{◌≡◌, ◌<◌, length, get_or, List, None, rules, arith, ap, ◌∙◌}
 use Rattle.model.specs.Cores.{Core}
 use Rattle.model.specs.Engine.{blank, engine_of}
 use Rattle.engine.proofs.Stepping.{stepped}

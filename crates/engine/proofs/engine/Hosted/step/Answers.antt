@@ -1,4 +1,4 @@
-use Rattle.std.proofs.Common.{◌≡◌, sym, ap, ◌∙◌}
+use Rattle.std.proofs.Common.{sym, ap, ◌∙◌}
 use Rattle.model.specs.Engine.{Engine}
 use Rattle.engine.specs.Engines.{host_has}
 use Rattle.engine.proofs.Hosts.{step_host}
