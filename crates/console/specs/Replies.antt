@@ -3,12 +3,7 @@
 --   CommandReply  the text; only the order of tags is left free
 -- Assumes nothing.
 use Rattle.std.specs.Prelude.{◌≡◌, ℕ, List, ◌++◌, take, replicate, Ok, Err, codes, decimal, Result}
-use Rattle.formats.specs.declared.refusal.NothingWaits.{NothingWaits}
 use Rattle.formats.specs.Refusals.{nothing_waits_number}
-use Rattle.formats.specs.declared.entry.SentEntry.{SentEntry}
-use Rattle.formats.specs.declared.entry.RecordEntry.{RecordEntry}
-use Rattle.model.specs.declared.refusal.ReadRefusal.{ReadRefusal}
-use Rattle.model.specs.declared.refusal.RecordRefusal.{RecordRefusal}
 use Rattle.model.specs.declared.refusal.TagsRefusal.{TagsRefusal}
 use Rattle.model.specs.declared.call.Reply.{Reply}
 use Rattle.model.specs.declared.call.Reply.TheVariants.{Stepped, Cleared, Held, Word, GivenBack, Taken}
