@@ -14,7 +14,8 @@ use Rattle.console.specs.declared.reason.Reason.{Reason}
 use Rattle.console.specs.declared.reason.Reason.TheVariants.{UnknownCommand, NotFiveBytes, UnknownKind}
 use Rattle.model.specs.declared.call.Call.TheVariants.{Step, Turn, Clear, Hold, Read, GiveBack, Take}
 use Rattle.console.specs.Buffers.{MemoryValue, words, bytes, OutletValue, store, over}
-use Rattle.console.specs.Values.{PackedValue, program, listing, one, image, SettingsValue, CommandValue, packed, memory, outlet, make, engine}
+use Rattle.console.specs.Values.{PackedValue, program, listing, one, image, SettingsValue}
+use Rattle.console.specs.Values.{CommandValue, packed, memory, outlet, make, engine}
 use Rattle.console.specs.Words.{words_of, others, and_then, word_of, number_of, times_of, bytes_of, numbers_of, ended}
 
 -- numbers as bytes, four each, most significant first
