@@ -2,12 +2,9 @@
 -- Assumes nothing.
 use Rattle.std.proofs.Common.{◌≡◌, ℕ, zero, suc, ◌+◌, ◌<◌, Bool, false, cond, ltb, eqb, List, [], ◌∷◌, ◌++◌, length}
 use Rattle.std.proofs.Common.{set, Some, None, Option, MatchOption, sym, refl, ap, ◌∙◌, subst, inl, inr, arith, lt-ltb, le-ltb}
-use Rattle.std.proofs.Common.{length-set}
 use Rattle.std.specs.List.{position, position_or_len}
 use Rattle.std.proofs.lemmas.Bool.{cases_Bool, cond-false, ltb-true, ltb-false, or_parts}
 use Rattle.std.proofs.lemmas.Bool.Decides.{nat_tests}
-use Rattle.arrayvec.specs.ArrayVec.{ArrayVec, with_items}
-use Rattle.arrayvec.proofs.ArrayVecLemmas.{items-with_items}
 use Rattle.model.specs.declared.line.Line.{Line}
 use Rattle.model.specs.declared.effect.Effect.TheVariants.{Nothing, Wrote}
 use Rattle.model.specs.Lines.{has_line, next_write, after_write, Distinct}
@@ -127,7 +124,7 @@ has_line_set [] i k a h = refl
 has_line_set (l ∷ ls) zero k a h = rw h
 has_line_set (l ∷ ls) (suc i) k a h = rw (has_line_set ls i k a h)
 
-distinct_set : (ls : List Line) (i : ℕ) (k : Line) → k.address ≡ (line_at ls i).address → Distinct ls → Distinct (set ls i k)
+pub distinct_set : (ls : List Line) (i : ℕ) (k : Line) → k.address ≡ (line_at ls i).address → Distinct ls → Distinct (set ls i k)
 distinct_set [] i k h d = d
 distinct_set (l ∷ ls) zero k h d = (ap (has_line ls) h ∙ d.0, d.1)
 distinct_set (l ∷ ls) (suc i) k h d = (has_line_set ls i k l.address h ∙ d.0, distinct_set ls i k h d.1)
@@ -144,15 +141,3 @@ pub distinct_push : (ls : List Line) (k : Line) → has_line ls k.address ≡ fa
 distinct_push [] k h d = (refl, tt)
 distinct_push (l ∷ ls) k h d =
     let p = or_parts (eqb l.address k.address) (has_line ls k.address) h in (has_line_push ls k l.address d.0 (eqb_swap l.address k.address p.0), distinct_push ls k p.1 d.1)
-
--- a line of a vector changes, and stays where it is: `shown` is what the vector shows of its lines for the change
-module _ (v : ArrayVec Line) (shown ls : List Line) (same : shown ≡ v.items) (seen : v.items ≡ ls) (f : Line → Line) (i : ℕ) where
-  pub line_shown : line_at shown i ≡ line_at ls i
-  line_shown = ap (λ l. line_at l i) (same ∙ seen)
-
-  pub changed : (with_items v (set shown i (f (line_at shown i)))).items ≡ set ls i (f (line_at ls i))
-  changed =
-      items-with_items v (set shown i (f (line_at shown i))) (length-set shown i (f (line_at shown i)) ∙ ap length same) ∙ ap (λ l. set l i (f (line_at l i))) (same ∙ seen)
-
-  pub changed_apart : ((l : Line) → (f l).address ≡ l.address) → Distinct v.items → Distinct (with_items v (set shown i (f (line_at shown i)))).items
-  changed_apart stays apart = subst Distinct (sym changed) (distinct_set ls i _ (stays _) (subst Distinct seen apart))

@@ -31,7 +31,7 @@ all_added {steps = steps} {old = old} all (Err e) none ran full (it, xs, x, rest
     cc
 
 -- each tagged address stands once, since no other line is there
-each_once : (ls : List Line) (a : ℕ) → Distinct ls → count_by (λ x. eqb x a) (tags ls) ≡ cond (tagged ls a) 1 0
+pub each_once : (ls : List Line) (a : ℕ) → Distinct ls → count_by (λ x. eqb x a) (tags ls) ≡ cond (tagged ls a) 1 0
 each_once [] a d = refl
 each_once (l ∷ ls) a d =
     let ih = each_once ls a d.1 in

@@ -1,8 +1,10 @@
 -- How far a core's pc and count go in each state.
+--   pc_most, count_most  by state;  WithinBounds  of what people see of a core
 -- Assumes nothing.
-use Rattle.std.specs.Prelude.{ℕ, ◌-◌}
-use Rattle.formats.specs.declared.bounds.TheConstants.{MOST_INSTRUCTIONS, MOST_PERFORMED}
+use Rattle.std.specs.Prelude.{ℕ, ◌-◌, ◌≤◌}
+use Rattle.formats.specs.declared.bounds.TheConstants.{MOST_INSTRUCTIONS, MOST_LINES, MOST_PERFORMED}
 use Rattle.model.specs.declared.state.State.{State}
+use Rattle.model.specs.declared.state.Status.{Status}
 use Rattle.model.specs.declared.state.State.TheVariants.{Commit, Stopped}
 
 -- a core that goes on stands at one of 512 instructions; in COMMIT, at an END, which has a next one; HALT moves past itself
@@ -15,3 +17,9 @@ pc_most _ = MOST_INSTRUCTIONS - 1
 abbrev pub count_most : State → ℕ
 count_most Commit = MOST_PERFORMED - 1
 count_most _ = MOST_PERFORMED
+
+-- what is true of what people see of a core, whatever was done to it
+pub record WithinBounds (s : Status) : Type 0 where
+  pub pc : s.pc ≤ pc_most s.state
+  pub count : s.count ≤ count_most s.state
+  pub used : s.used ≤ MOST_LINES

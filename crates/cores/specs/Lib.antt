@@ -1,4 +1,5 @@
 pub mod Onwards
+pub mod Records
 pub mod Bounds
 pub mod Buffers
 pub mod Cores

@@ -18,5 +18,5 @@ shared_of m o s = record {
   memory = m.words s.memory;
   outlet = outlet_of o s.outlet;
   token = s.token;
-  entries = s.record;
+  entries = s.record.entries;
 }

@@ -10,23 +10,36 @@ use model::line::Line;
 use model::refusal::TagsRefusal;
 use std::marker::Model;
 
-// The lines, in fixed memory.
-#[derive(Drop)]
+// The lines, in fixed memory. The buffer can be copied, and so can a core.
+#[derive(Clone, Copy)]
 pub(crate) struct Buffer {
-    lines: ArrayVec<Line, MOST_LINES>,
+    places: [Line; MOST_LINES],
+    used: usize,
 }
 
-// Seen as the list of its lines, oldest first, each at an address of its own.
+// Seen as the list of its lines, oldest first, each at an address of its own. Places that are not used hold blank lines, so that
+// the list tells all of a buffer.
 impl Model for Buffer {
-    ghost use Rattle.std.specs.Prelude.{List};
+    ghost use Rattle.std.specs.Prelude.{List, ◌++◌, ◌-◌, length, take, replicate};
+    ghost use Rattle.std.proofs.Common.{◌∙◌, sym, ap, arith, take-append-drop, length-take-le};
+    ghost use Rattle.formats.specs.declared.bounds.TheConstants.{MOST_LINES};
     ghost use Rattle.model.specs.declared.line.Line.{Line};
-    ghost use Rattle.model.specs.Lines.{Distinct};
+    ghost use Rattle.cores.specs.Buffers.{no_line, Filled};
 
     ghost Value = { List Line };
 
-    ghost view = { λ b. b.lines.items };
+    ghost view = { λ b. take b.used b.places };
 
-    ghost invariant = { λ b. Distinct b.lines.items };
+    ghost invariant = { λ b. Filled b.places b.used };
+
+    ghost inverse = { λ ls. record { places = ls ++ replicate (MOST_LINES - length ls) no_line; used = length ls } };
+
+    ghost inverse_ok = { λ b h i. record {
+      places = (ap (λ n. take b.used b.places ++ replicate (MOST_LINES - n) no_line)
+          (length-take-le b.used b.places (omega (arith, h.few, h.sized)))
+          ∙ ap (λ ls. take b.used b.places ++ ls) (sym h.blank) ∙ take-append-drop b.used b.places) i;
+      used = length-take-le b.used b.places (omega (arith, h.few, h.sized)) i;
+    } };
 }
 
 impl Buffer {
@@ -35,7 +48,8 @@ impl Buffer {
         ensures { result ≡ [] }
     {
         Buffer {
-            lines: ArrayVec::new(),
+            places: [Line::default(); MOST_LINES],
+            used: 0,
         }
     }
 
@@ -45,14 +59,15 @@ impl Buffer {
         ensures few { length self.now ≤ MOST_LINES }
         ensures apart { Distinct self.now }
     {
-        self.lines.as_slice()
+        &self.places[..self.used]
     }
 
     // How many lines there are.
     pub(crate) fn len(&self) -> usize
-        ensures { result ≡ length self.now }
+        ensures value { result ≡ length self.now }
+        ensures few { result ≤ MOST_LINES }
     {
-        self.lines.len()
+        self.used
     }
 
     // Where the line at an address stands, or None where there is none.
@@ -71,13 +86,13 @@ impl Buffer {
     }
 
     // Makes one more line, at an address that has none.
-    #[tactic(auto, using(crate::proofs::Buffers::distinct_push))]
     pub(crate) fn push(&mut self, line: Line)
         requires room { length self.old < MOST_LINES }
         requires fresh { has_line self.old line.address ≡ false }
         ensures { self.new ≡ self.old ++ line ∷ [] }
     {
-        self.lines.push(line);
+        self.places[self.used] = line;
+        self.used += 1;
     }
 
     // Puts another word into a line, which is dirty then; its tag stays as it is.
@@ -85,9 +100,12 @@ impl Buffer {
         requires { index < length self.old }
         ensures { self.new ≡ slice_set self.old index (restored (line_at self.old index) value) }
     {
-        let line = &mut self.lines[index];
-        line.value = value;
-        line.dirty = true;
+        let line = self.lines()[index];
+        self.places[index] = Line {
+            value,
+            dirty: true,
+            ..line
+        };
     }
 
     // Whether a line is dirty.
@@ -110,8 +128,11 @@ impl Buffer {
         ensures lines { self.new ≡ after_write self.old }
     {
         let index = self.first_dirty()?;
-        let line = &mut self.lines[index];
-        line.dirty = false;
+        let line = self.lines()[index];
+        self.places[index] = Line {
+            dirty: false,
+            ..line
+        };
         Some((line.address, line.value))
     }
 
@@ -119,7 +140,9 @@ impl Buffer {
     pub(crate) fn clear(&mut self)
         ensures { self.new ≡ [] }
     {
-        self.lines.clear();
+        if self.used != 0 {
+            *self = Buffer::new();
+        }
     }
 
     // Whether there is a line at an address with its read tag set.

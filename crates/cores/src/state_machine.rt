@@ -12,7 +12,7 @@ ghost use Rattle.model.specs.Cores.{faulted, ends, in_bypass, early, continued, 
 ghost use Rattle.model.specs.Cores.{in_early_flush, direct, in_early_commit};
 ghost use Rattle.model.specs.Engine.{new_core, written_at, affected, shared_after};
 ghost use Rattle.model.specs.Calls.{status_of, LineTags};
-ghost use Rattle.cores.specs.Bounds.{pc_most, count_most};
+ghost use Rattle.cores.specs.Bounds.{pc_most, count_most, WithinBounds};
 ghost use Rattle.cores.specs.Onwards.{Onward, OnwardBy, OnwardInBlock};
 ghost use Rattle.cores.specs.Steps.{written, stepped_of, Attempted};
 
@@ -33,8 +33,8 @@ use model::state::{State, Status};
 use outlet::waiting::Outlet;
 use std::marker::Model;
 
-/// State, context, saved context, open BEGINs, instructions performed in the block, and the write buffer.
-#[derive(Drop)]
+/// State, context, saved context, open BEGINs, instructions performed in the block, and the write buffer. A core can be copied.
+#[derive(Clone, Copy)]
 pub struct Core {
     state: State,
     context: Context,
@@ -50,11 +50,13 @@ impl Model for Core {
 
     ghost Value = { ModelCore };
 
-    ghost use Rattle.cores.specs.Cores.{core_of, Bounded};
+    ghost use Rattle.cores.specs.Cores.{core_of, inside_of, Bounded};
 
     ghost view = { core_of };
 
     ghost invariant = { Bounded };
+
+    ghost inverse = { inside_of };
 }
 
 // What stands where a list of fixed capacity has no core: a new core at instruction 0.
@@ -119,7 +121,8 @@ impl Core {
 
     /// What people see of the core.
     pub fn status(&self) -> Status
-        ensures { result ≡ status_of self.now }
+        ensures value { result ≡ status_of self.now }
+        ensures bounds { WithinBounds result }
     {
         Status {
             state: self.state,
