@@ -1,8 +1,9 @@
 // An engine over any memory and any outlet, and the same with the host's pass beside it.
-ghost use Rattle.std.specs.Prelude.{◌≡◌, ◌≤◌, is_some};
+ghost use Rattle.std.specs.Prelude.{◌≡◌, ◌≤◌, is_some, length, IfSome};
 ghost use Rattle.model.specs.Engine.{check, new_cores, make};
 ghost use Rattle.model.specs.Calls.{step, following, turn, clear, hold, read, give_back, take_oldest, record_at, Tags, holder, status};
 ghost use Rattle.model.specs.Runs.{reply, played};
+ghost use Rattle.cores.specs.Bounds.{WithinBounds};
 ghost use Rattle.cores.specs.Shareds.{outlet_of};
 ghost use Rattle.engine.specs.Engines.{held_as, given_as, host_has};
 
@@ -11,9 +12,8 @@ use crate::pass::Pass;
 use crate::settings::Settings;
 use cores::record::Record;
 use cores::shared::Shared;
-use cores::state_machine::Core;
 use formats::answer::Answer;
-use formats::bounds::{MOST_CORES, MOST_LINES};
+use formats::bounds::{MOST_CORES, MOST_ENTRIES, MOST_LINES};
 use formats::entry::{RecordEntry, SentEntry};
 use formats::refusal::NothingWaits;
 use memory::shared::Memory;
@@ -181,7 +181,8 @@ impl<M: Memory, O: Outlet> Engine<M, O> {
 
     /// The entry of the record at a place, counted from 0.
     pub fn record(&self, place: usize) -> Result<RecordEntry, RecordRefusal>
-        ensures { result ≡ record_at self.now place }
+        ensures value { result ≡ record_at self.now place }
+        ensures few { length self.now.entries ≤ MOST_ENTRIES }
     {
         let shared = &self.shared;
         shared.record.get(place)
@@ -204,9 +205,13 @@ impl<M: Memory, O: Outlet> Engine<M, O> {
 
     /// What people see of a core, or None where there is no such core.
     pub fn status(&self, i: usize) -> Option<Status>
-        ensures { result ≡ status self.now i }
+        ensures value { result ≡ status self.now i }
+        ensures bounds { IfSome result WithinBounds }
+        ensures few { length self.now.cores ≤ MOST_CORES }
+        ensures next { self.now.next ≤ MOST_CORES }
     {
-        self.cores.get(i).map(Core::status)
+        let core = self.cores.get(i)?;
+        Some(core.status())
     }
 }
 
@@ -323,7 +328,8 @@ impl<M: Memory, O: Outlet> Hosted<M, O> {
 
     /// The entry of the record at a place.
     pub fn record(&self, place: usize) -> Result<RecordEntry, RecordRefusal>
-        ensures { result ≡ record_at self.now place }
+        ensures value { result ≡ record_at self.now place }
+        ensures few { length self.now.entries ≤ MOST_ENTRIES }
     {
         self.engine.record(place)
     }
@@ -337,7 +343,10 @@ impl<M: Memory, O: Outlet> Hosted<M, O> {
 
     /// What people see of a core, or None where there is no such core.
     pub fn status(&self, i: usize) -> Option<Status>
-        ensures { result ≡ status self.now i }
+        ensures value { result ≡ status self.now i }
+        ensures bounds { IfSome result WithinBounds }
+        ensures few { length self.now.cores ≤ MOST_CORES }
+        ensures next { self.now.next ≤ MOST_CORES }
     {
         self.engine.status(i)
     }
