@@ -1,5 +1,6 @@
 // Playing a packed list of calls over byte slices: the call for Rust, and the one that is exported to C.
 ghost use Rattle.std.specs.Prelude.{◌≡◌};
+ghost use Rattle.std.specs.Option.{unwrap_or};
 ghost use Rattle.calls.specs.Export.{accepted, play_result, answers_after, LawfulRun, KeptIfRefused, play_number, play_place, result_code};
 ghost use Rattle.calls.specs.declared.export.PlayRefusal.TheVariants.{Program as OfProgram, Settings as OfSettings};
 
@@ -56,6 +57,13 @@ impl PlayRefusal {
             PlayRefusal::Settings(_) => None,
         }
     }
+
+    /// The same as a number: 0 where there is no place.
+    pub fn place_or_zero(self) -> usize
+        ensures { result ≡ unwrap_or (play_place self) 0 }
+    {
+        self.place().unwrap_or(0)
+    }
 }
 
 /// Plays a packed list of calls on a new engine. Memory and sent words are the handed-in bytes themselves.
@@ -96,7 +104,7 @@ fn result_code(res: Result<usize, PlayRefusal>) -> u64
         Ok(count) => count as u64,
         Err(refusal) => 9223372036854775808
             + u64::from(refusal.number()) * 4294967296
-            + refusal.place().unwrap_or(0) as u64 % 4294967296,
+            + refusal.place_or_zero() as u64 % 4294967296,
     }
 }
 

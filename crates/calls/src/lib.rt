@@ -6,5 +6,5 @@ pub mod call;
 pub mod export;
 mod kind;
 pub mod play;
-mod reply;
-mod settings;
+pub mod reply;
+pub mod settings;

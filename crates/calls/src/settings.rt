@@ -1,28 +1,40 @@
 // What an engine is made from besides program, memory and outlet, as bytes.
-ghost use Rattle.std.specs.Prelude.{◌≡◌};
+ghost use Rattle.std.specs.Prelude.{◌≡◌, ◌≤◌, length};
 ghost use Rattle.calls.specs.Settings.{lines_in, places_in};
 
-use arrayvec::ArrayVec;
 use std::marker::Model;
 
 // More entry places than an engine can have cores.
 const TOO_MANY: usize = 9;
 
 /// Lines and entry places. Of more than nine entry places only nine are kept: as many are refused already.
-/// A list in fixed memory: reading settings allocates nothing.
-#[derive(Drop)]
+/// A list in fixed memory: reading settings allocates nothing, and settings can be copied.
+#[derive(Clone, Copy)]
 pub struct Settings {
     lines: usize,
-    places: ArrayVec<usize, TOO_MANY>,
+    kept: [usize; TOO_MANY],
+    count: usize,
 }
 
-// Seen as the lines and the list of entry places.
+// Seen as the lines and the list of entry places, and what stands in the places that are free.
 impl Model for Settings {
+    ghost use Rattle.std.specs.Prelude.{◌≡◌, ◌≤◌, ◌++◌, length, take, drop};
+    ghost use Rattle.std.proofs.Common.{refl, arith, take-append-drop, length-take-le};
     ghost use Rattle.calls.specs.Settings.{LinesAndPlaces};
 
     ghost Value = { LinesAndPlaces };
 
-    ghost view = { λ s. record { lines = s.lines; places = s.places.items } };
+    ghost view = { λ s. record { lines = s.lines; places = take s.count s.kept; spare = drop s.count s.kept } };
+
+    ghost invariant = { λ s. (s.count ≤ 9) × (length s.kept ≡ 9) };
+
+    ghost inverse = { λ s. record { lines = s.lines; kept = s.places ++ s.spare; count = length s.places } };
+
+    ghost inverse_ok = { λ s h i. record {
+      lines = s.lines;
+      kept = take-append-drop s.count s.kept i;
+      count = length-take-le s.count s.kept (omega (arith, h.0, h.1)) i;
+    } };
 }
 
 impl Settings {
@@ -31,18 +43,24 @@ impl Settings {
         ensures lines { result.lines ≡ lines_in bytes.now }
         ensures places { result.places ≡ places_in bytes.now }
     {
-        let mut places = ArrayVec::new();
+        let mut kept = [0; TOO_MANY];
         let [lines, rest @ ..] = bytes else {
-            return Settings { lines: 0, places };
+            return Settings {
+                lines: 0,
+                kept,
+                count: 0,
+            };
         };
         let (pairs, _) = rest.as_chunks::<2>();
-        let kept = &pairs[..pairs.len().min(TOO_MANY)];
-        for pair in kept {
-            places.push(usize::from(u16::from_be_bytes(*pair)));
+        let count = pairs.len().min(TOO_MANY);
+        let first = &pairs[..count];
+        for (i, pair) in first.iter().enumerate() {
+            kept[i] = usize::from(u16::from_be_bytes(*pair));
         }
         Settings {
             lines: usize::from(*lines),
-            places,
+            kept,
+            count,
         }
     }
 
@@ -55,8 +73,9 @@ impl Settings {
 
     /// The entry places.
     pub fn places(&self) -> &[usize]
-        ensures { result.now ≡ self.now.places }
+        ensures value { result.now ≡ self.now.places }
+        ensures few { length result.now ≤ 9 }
     {
-        self.places.as_slice()
+        &self.kept[..self.count]
     }
 }
