@@ -67,8 +67,8 @@ fn write_head(out: &mut Vec<u8>, text: &[u8]) -> Result<(), AllocError>
 pub fn write_reason(out: &mut Vec<u8>, reason: Reason) -> Result<(), AllocError>
     ensures { OnOk result (out.new.items ≡ out.old.items ++ reason_line reason) }
 {
-    let line = format!(in *out.allocator(); "-> not understood: {reason}")?;
-    write_line(out, line.as_str())
+    out.extend_from_slice(b"-> not understood: ")?;
+    write_line(out, reason.text())
 }
 
 /// Answers a line by an engine's reply.

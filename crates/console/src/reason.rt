@@ -22,12 +22,12 @@ pub enum Reason {
     NoEngine,
 }
 
-// The words after `-> not understood: `.
-impl fmt::Display for Reason {
-    ghost output = { λ r. Some (reason_text r) };
-
-    fn fmt<W: fmt::Write>(&self, f: &mut fmt::Formatter<W>) -> fmt::Result {
-        f.write_str(match self {
+impl Reason {
+    /// The words after `-> not understood: `.
+    pub fn text(self) -> &'static str
+        ensures { result.now ≡ reason_text self }
+    {
+        match self {
             Reason::UnknownCommand => "unknown command",
             Reason::MissingWord => "missing word",
             Reason::NoNumber => "no number",
@@ -38,7 +38,16 @@ impl fmt::Display for Reason {
             Reason::ExtraWord => "extra word",
             Reason::NoProgram => "no program",
             Reason::NoEngine => "no engine",
-        })
+        }
+    }
+}
+
+// Its words.
+impl fmt::Display for Reason {
+    ghost output = { λ r. Some (reason_text r) };
+
+    fn fmt<W: fmt::Write>(&self, f: &mut fmt::Formatter<W>) -> fmt::Result {
+        f.write_str(self.text())
     }
 }
 
