@@ -34,6 +34,7 @@ fn play_file(rt: &HostRuntime, name: &[u8]) -> io::Result<()> {
 }
 
 // Plays the file that argument i names. Answers whether there is such an argument.
+#[inline(never)]
 fn play_argument(rt: &HostRuntime, i: usize) -> io::Result<bool> {
     let mut name = [0u8; LONGEST_NAME];
     match rt.arg(i, &mut name) {
@@ -44,10 +45,16 @@ fn play_argument(rt: &HostRuntime, i: usize) -> io::Result<bool> {
     Ok(true)
 }
 
+// Plays standard input. Not a part of `main`, so that the stack that one scenario takes is not held while another is played.
+#[inline(never)]
+fn play_standard_input(rt: &HostRuntime) -> io::Result<()> {
+    let end = Scenario::play(rt, rt.stdin())?;
+    report(rt, "standard input", end)
+}
+
 fn main(rt: HostRuntime) -> io::Result<()> {
     if !play_argument(&rt, 1)? {
-        let end = Scenario::play(&rt, rt.stdin())?;
-        return report(&rt, "standard input", end);
+        return play_standard_input(&rt);
     }
     // By number: the library's list of all arguments refuses them all where one is no UTF-8.
     for i in 2..usize::MAX {
