@@ -24,17 +24,17 @@ prepended front (Err r) = Err r
 
 module _ (k count : ℕ) (bytes : List ℕ) (place : ℕ) (front : List Instruction) where
   -- one instruction more
-  read_more : (i : Instruction) → instruction_at count bytes place ≡ Ok i → prepended front (read_from (suc k) count bytes place) ≡ prepended (front ++ (i ∷ [])) (read_from k count bytes (suc place))
+  pub read_more : (i : Instruction) → instruction_at count bytes place ≡ Ok i → prepended front (read_from (suc k) count bytes place) ≡ prepended (front ++ (i ∷ [])) (read_from k count bytes (suc place))
   unfolding read_from
   read_more i is = grind (arith, append_assoc {A = Instruction})
 
   -- the first refusal decides
-  read_stop : (r : ProgramRefusal) → instruction_at count bytes place ≡ Err r → prepended front (read_from (suc k) count bytes place) ≡ Err r
+  pub read_stop : (r : ProgramRefusal) → instruction_at count bytes place ≡ Err r → prepended front (read_from (suc k) count bytes place) ≡ Err r
   unfolding read_from
   read_stop r is = grind arith
 
 -- nothing is left to read
-read_none : (count : ℕ) (bytes : List ℕ) (place : ℕ) (front : List Instruction) → prepended front (read_from 0 count bytes place) ≡ Ok front
+pub read_none : (count : ℕ) (bytes : List ℕ) (place : ℕ) (front : List Instruction) → prepended front (read_from 0 count bytes place) ≡ Ok front
 unfolding read_from
 read_none count bytes place front = ap Ok (append-nil front)
 
@@ -42,7 +42,7 @@ read_none count bytes place front = ap Ok (append-nil front)
 inside_from : (count place : ℕ) (u : Result Instruction (ListRefusal InstructionFault)) (i : Instruction) → in_program count place u ≡ Ok i → target_inside count i ≡ true
 inside_from count place u i is = grind arith
 
-targets_push : (count : ℕ) (is : List Instruction) (i : Instruction) → targets_inside count is ≡ true → target_inside count i ≡ true → targets_inside count (is ++ (i ∷ [])) ≡ true
+pub targets_push : (count : ℕ) (is : List Instruction) (i : Instruction) → targets_inside count is ≡ true → target_inside count i ≡ true → targets_inside count (is ++ (i ∷ [])) ≡ true
 targets_push count [] i h t = rw t
 targets_push count (j ∷ is) i h t = grind (arith, targets_push count is i)
 

@@ -71,3 +71,8 @@ low_four n = omega arith
 pub low_bytes : (n : ℕ) → (n / 4294967296 % 256) ∷ (n / 16777216 % 256) ∷ (n / 65536 % 256) ∷ (n / 256 % 256) ∷ (n % 256) ∷ [] ≡ bytes_of 5 n
 unfolding bytes_of
 low_bytes n = simp div-div-eq-div-mul
+
+-- the lowest five bytes of a number spell its remainder by 2 ^ 40
+pub low_five : (n : ℕ) → spelled (bytes_of 5 n) ≡ n % 2 ^ 40
+unfolding bytes_of
+low_five n = omega arith

@@ -1,8 +1,9 @@
 -- Instructions as words, each way.
 -- Assumes nothing.
-use Rattle.std.proofs.Common.{◌≡◌, ℕ, ◌/◌, ◌%◌, ◌^◌, ◌<◌, Bool, true, cond, eqb, Ok, Result, refl, ap, ◌∙◌, arith, lt-ltb}
+use Rattle.std.proofs.Common.{◌≡◌, ℕ, ◌/◌, ◌%◌, ◌^◌, ◌<◌, ◌≤◌, Bool, true, cond, eqb, Ok, Err, Result, refl, ap, ◌∙◌, arith, lt-ltb}
 use Rattle.std.proofs.lemmas.Bool.Decides.{nat_tests}
 use Rattle.formats.specs.declared.refusal.InstructionFault.{InstructionFault}
+use Rattle.formats.specs.declared.refusal.InstructionFault.TheVariants.{UnknownOpcode}
 use Rattle.formats.specs.declared.register.Register.{Register}
 use Rattle.formats.specs.declared.register.Register.TheVariants.{R0}
 use Rattle.formats.specs.declared.instruction.Fields.{Fields}
@@ -13,7 +14,12 @@ use Rattle.formats.specs.Registers.{register_number, register_at}
 use Rattle.formats.specs.Instructions.{joined, split, encoded, decoded, only_if, instruction_word, word_instruction}
 use Rattle.formats.proofs.Belows.{same_value}
 
-register_below : (r : Register) → register_number r < 8
+-- an opcode above 14 is refused
+pub unknown_opcode : (f : Fields) → 15 ≤ f.opcode → decoded f ≡ Err UnknownOpcode
+unknown_opcode f h = grind (arith, nat_tests)
+
+-- a register's number is below 8
+pub register_below : (r : Register) → register_number r < 8
 register_below r = grind arith
 
 -- the register of a register's number is that register
@@ -57,7 +63,7 @@ pub word_again : (i : Instruction) → word_instruction (instruction_word i) ≡
 word_again i = ap decoded (split_joined (encoded i) (opcode_small i)) ∙ decoded_encoded i
 
 -- the joined fields of a word are the word
-joined_split : (w : ℕ) → joined (split w) ≡ w
+pub joined_split : (w : ℕ) → joined (split w) ≡ w
 joined_split w =
     rw (register_back (w / 16777216 % 8) (omega arith), register_back (w / 2097152 % 8) (omega arith), register_back (w / 262144 % 8) (omega arith)) (omega arith)
 

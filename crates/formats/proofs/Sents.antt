@@ -7,7 +7,8 @@ use Rattle.formats.specs.declared.entry.SentEntry.{SentEntry}
 use Rattle.formats.specs.Belows.{channel_of}
 use Rattle.formats.specs.Sents.{sent_code, sent_of, code_sent, sent_bytes}
 use Rattle.formats.proofs.Belows.{same_value}
-use Rattle.formats.proofs.Bytes.{low_bytes}
+use Rattle.formats.specs.Bytes.{bytes_of, spelled}
+use Rattle.formats.proofs.Bytes.{low_bytes, low_five}
 
 -- two entries with the same channel and word are the same
 pub same_sent : (e f : SentEntry) → e.channel ≡ f.channel → e.word ≡ f.word → e ≡ f
@@ -32,6 +33,13 @@ pub code_back : (n : ℕ) (e : SentEntry) → n < 256 ^ 5 → code_sent n ≡ Ok
 code_back n e h is =
     let it : sent_of n ≡ e = cc in
     rw (← it) (omega arith)
+
+-- no more than the lowest five bytes of a number say which entry it is
+pub low_sent : (n : ℕ) → sent_of (spelled (bytes_of 5 n)) ≡ sent_of n
+low_sent n =
+    let low = low_five n in
+    same_sent (sent_of (spelled (bytes_of 5 n))) (sent_of n) (same_value 256 (channel_of (spelled (bytes_of 5 n) / 4294967296)) (channel_of (n / 4294967296)) (omega (arith, low)))
+    (omega (arith, low))
 
 -- the channel and the bytes of the word are the entry's bytes
 pub bytes_written : (e : SentEntry) (channel : ℕ) → channel ≡ e.channel.value → channel ∷ (e.word / 16777216 % 256) ∷ (e.word / 65536 % 256) ∷ (e.word / 256 % 256) ∷ (e.word % 256) ∷ [] ≡ sent_bytes e

@@ -75,7 +75,7 @@ settle_map x [] = refl
 settle_map x (c ∷ cs) = grind (arith, settle_map x cs)
 
 -- the settled cores after a step
-settle_change : (e : Engine) (i : ℕ) (o : Outcome) → map settle (change e i o).cores ≡ set (map settle e.cores) i (settle o.core)
+pub settle_change : (e : Engine) (i : ℕ) (o : Outcome) → map settle (change e i o).cores ≡ set (map settle e.cores) i (settle o.core)
 settle_change e i o =
     map-set settle (map (core_after o.effect) e.cores) i o.core ∙ ap (λ l. set l i (settle o.core)) (settle_map o.effect e.cores)
 

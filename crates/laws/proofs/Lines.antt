@@ -38,7 +38,7 @@ pub get_or_overlay_other : (ls : List Line) (m : List ℕ) (a : ℕ) → has_lin
 get_or_overlay_other [] m a h = refl
 get_or_overlay_other (l ∷ ls) m a h = grind (arith, nat_tests, get_or_overlay_other ls (laid l m) a, get_or-set_other {A = ℕ})
 
-overlay_set : (ls : List Line) (m : List ℕ) (a w : ℕ) → has_line ls a ≡ false → overlay ls (set m a w) ≡ set (overlay ls m) a w
+pub overlay_set : (ls : List Line) (m : List ℕ) (a w : ℕ) → has_line ls a ≡ false → overlay ls (set m a w) ≡ set (overlay ls m) a w
 overlay_set [] m a w h = refl
 overlay_set (l ∷ ls) m a w h = grind (arith, nat_tests, overlay_set ls (laid l m) a w, set_comm m a l.address w l.value)
 

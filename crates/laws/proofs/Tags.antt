@@ -40,7 +40,7 @@ each_once [] a d = refl
 each_once (l ∷ ls) a d = grind (arith, nat_tests, each_once ls a, untagged ls a, sum_by-cons (λ x. cond (eqb x a) 1 0) l.address (tags ls))
 
 -- copying the tags in the order of the lines is one way
-copied :
+pub copied :
     (ls : List Line) (before : List ℕ) → Distinct ls → length (tags ls) ≤ length before →
     TagsCopied ls before (tags ls ++ drop (length (tags ls)) before) (length (tags ls))
 copied ls before d fits = record {

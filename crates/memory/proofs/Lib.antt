@@ -1,2 +1,3 @@
+pub mod Backings
 pub mod Fronts
 pub mod Quads

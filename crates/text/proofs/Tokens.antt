@@ -7,7 +7,7 @@ use Rattle.text.specs.declared.class.Class.TheVariants.{Blank, NotBlank}
 use Rattle.text.specs.Lines.{in_class, from_token, split, next_token}
 
 -- it begins with an element that fails it
-begins : (p : ℕ → Bool) (xs : List ℕ) → 0 < length (drop (prefix_len p xs) xs) → 0 < prefix_len (λ x. not (p x)) (drop (prefix_len p xs) xs)
+pub begins : (p : ℕ → Bool) (xs : List ℕ) → 0 < length (drop (prefix_len p xs) xs) → 0 < prefix_len (λ x. not (p x)) (drop (prefix_len p xs) xs)
 begins p [] h = h
 begins p (x ∷ xs) h =
     elim (cases_Bool (p x)) [
