@@ -99,6 +99,35 @@ fn a_block_rolls_back_after_a_write_to_its_tagged_word(rt: HostRuntime) -> Resul
 }
 
 #[test]
+fn copies_of_a_core_and_a_record_stay_as_they_were(rt: HostRuntime) -> Result<(), Fail> {
+    let me = CoreNumber::new(1).ok_or(Missing::Number)?;
+    let mut core = Core::new(0).ok_or(Missing::Core)?;
+    let mut words = [7, 0];
+    let mut shared = shared(Program::read(&COPY)?, Token::Free, &mut words);
+    for _ in 0..2 {
+        assert_eq!(rt; core.step(me, &mut shared)?.answer, Answer::Running);
+    }
+    let before = core;
+    for _ in 0..3 {
+        core.step(me, &mut shared)?;
+    }
+    assert_eq!(rt; core.status().state, State::Bypass);
+    assert_eq!(rt; core.status().used, 0);
+    assert_eq!(rt; before.status().state, State::Transaction);
+    assert_eq!(rt; before.status().used, 1);
+    let mut list = [9];
+    assert_eq!(rt; before.tags(&mut list), Ok(1));
+    assert_eq!(rt; list, [0]);
+    let record = shared.record;
+    shared.record.clear();
+    assert_eq!(rt; shared.record.len(), 0);
+    assert!(rt; shared.record.get(0).is_err());
+    assert_eq!(rt; record.len(), 1);
+    assert_eq!(rt; record.get(0)?.core, me);
+    Ok(())
+}
+
+#[test]
 fn a_block_nests_255_deep(rt: HostRuntime) -> Result<(), Fail> {
     let me = CoreNumber::new(7).ok_or(Missing::Number)?;
     let mut core = Core::new(0).ok_or(Missing::Core)?;

@@ -1,5 +1,11 @@
 // Lists of calls played over bytes.
-use calls::export::hub_play;
+use calls::call::CallFault;
+use calls::export::{PlayRefusal, hub_play};
+use calls::reply::{fault_bytes, reply_bytes};
+use calls::settings::Settings;
+use formats::refusal::{Placed, ProgramFault};
+use model::call::Reply;
+use model::refusal::{CheckRefusal, ReadRefusal};
 
 // BEGIN; LOAD d 1; SET d 2 n 1; ADD d 1 a 1 b 2; STORE b 1; END; HALT
 const ADD_ONE: [u8; 28] = [
@@ -128,4 +134,37 @@ fn a_refusal_changes_nothing(rt: HostRuntime) {
     assert_eq!(rt; memory, [1, 2, 3, 4]);
     assert_eq!(rt; answers, [0xEE; 8]);
     assert_eq!(rt; sent, [9; 5]);
+}
+
+#[test]
+fn replies_and_settings_are_bytes_for_callers_too(rt: HostRuntime) {
+    assert_eq!(rt; reply_bytes(Reply::Word(Ok(258))), [5, 0, 0, 0, 0, 0, 1, 2]);
+    assert_eq!(rt;
+        reply_bytes(Reply::Word(Err(ReadRefusal::AddressOutside))),
+        [5, 14, 0, 0, 0, 0, 0, 0]
+    );
+    assert_eq!(rt;
+        fault_bytes(CallFault::UnknownKind),
+        [0, 2, 0, 0, 0, 0, 0, 0]
+    );
+    let settings = Settings::read(&[4, 0, 7, 1, 0, 9]);
+    let copy = settings;
+    assert_eq!(rt; settings.lines(), 4);
+    assert_eq!(rt; settings.places(), &[7, 256][..]);
+    assert_eq!(rt; copy.places(), &[7, 256][..]);
+    assert_eq!(rt; Settings::read(&[1; 40]).places().len(), 9);
+    assert_eq!(rt; Settings::read(&[]).places().len(), 0);
+}
+
+#[test]
+fn a_refusal_tells_its_place_or_none(rt: HostRuntime) {
+    let program = PlayRefusal::Program(Placed {
+        fault: ProgramFault::NoEnd,
+        place: 3,
+    });
+    assert_eq!(rt; program.place(), Some(3));
+    assert_eq!(rt; program.place_or_zero(), 3);
+    let settings = PlayRefusal::Settings(CheckRefusal::LineCount);
+    assert_eq!(rt; settings.place(), None);
+    assert_eq!(rt; settings.place_or_zero(), 0);
 }

@@ -1,4 +1,5 @@
 // Tests at the edges.
+use console::reason::Reason;
 use formats::below::Immediate;
 use formats::instruction::Instruction;
 use formats::refusal::{InstructionFault, Placed};
@@ -51,6 +52,20 @@ fn bytes_are_pairs(rt: HostRuntime) -> Result<(), Fail> {
     assert!(rt; read_bytes(heap, b"0")?.is_none());
     assert!(rt; read_bytes(heap, b"0g")?.is_none());
     assert!(rt; read_bytes(heap, b"--")?.is_none());
+    assert!(rt; read_bytes(heap, b"ab0g")?.is_none());
+    assert!(rt; read_bytes(heap, b"zzzz")?.is_none());
+    Ok(())
+}
+
+#[test]
+fn reasons_have_their_words(rt: HostRuntime) -> Result<(), Fail> {
+    let heap = rt.alloc();
+    assert_eq!(rt; Reason::UnknownCommand.text(), "unknown command");
+    assert_eq!(rt; Reason::NotFiveBytes.text(), "not five bytes");
+    assert_eq!(rt;
+        format!(in heap; "{}", Reason::NoEngine)?.as_str(),
+        Reason::NoEngine.text()
+    );
     Ok(())
 }
 
