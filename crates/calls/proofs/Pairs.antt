@@ -1,8 +1,8 @@
 -- The numbers that pairs of bytes hold: how many, and which.
 -- Assumes nothing.
-use Rattle.std.proofs.Common.{◌≡◌, ℕ, ◌+◌, ◌-◌, ◌*◌, ◌/◌, ◌≤◌, min, List, [], ◌∷◌, length, take, drop, sym, refl, ap}
-use Rattle.std.proofs.Common.{◌∙◌, arith, take_all}
-use Rattle.std.proofs.lemmas.List.{take_min, take_rest, take-map}
+use Rattle.std.proofs.Common.{◌≡◌, ℕ, ◌+◌, ◌-◌, ◌*◌, ◌/◌, ◌<◌, ◌≤◌, min, List, [], ◌∷◌, ◌++◌, length, get_or, take, drop, sym, refl, ap}
+use Rattle.std.proofs.Common.{◌∙◌, arith, length-take, length-take-le, take_all}
+use Rattle.std.proofs.lemmas.List.{take_min, take_rest, take-map, map_more, length-map}
 use Rattle.std.specs.Int.{from_be_bytes, w16}
 use Rattle.std.specs.Prelude.{map}
 use Rattle.std.specs.Simd.{first_chunks}
@@ -28,6 +28,15 @@ pairs_of_chunks bs = ap (λ k. map (from_be_bytes w16) (first_chunks 2 k bs)) (s
 
 -- the first nine of them, taken one after the other from the chunks that are kept
 module _ (chunks : List (List ℕ)) (count i : ℕ) (items : List ℕ) (nine : count ≡ min (length chunks) 9) (so_far : items ≡ map (from_be_bytes w16) (take i (take count chunks))) where
+  pub kept_few : i < length (take count chunks) → length items < 9
+  kept_few h =
+      let l : length items ≡ i = ap length so_far ∙ length-map (take i (take count chunks)) (from_be_bytes w16) ∙ length-take-le i (take count chunks) (omega arith) in
+      let k = length-take count chunks in
+      omega arith
+
+  pub kept_more : (x : ℕ) (none : List ℕ) → i < length (take count chunks) → x ≡ from_be_bytes w16 (get_or (take count chunks) i none) → items ++ (x ∷ []) ≡ map (from_be_bytes w16) (take (i + 1) (take count chunks))
+  kept_more x none h is = let m = map_more (from_be_bytes w16) (take count chunks) i none h in cc
+
   pub kept_all : (bs : List ℕ) → chunks ≡ first_chunks 2 (length bs / 2) bs → length (take count chunks) ≤ i → items ≡ take 9 (pairs_in bs)
   kept_all bs are h =
       let k : count ≡ min 9 (length chunks) = omega arith in

@@ -2,11 +2,10 @@
 -- Assumes nothing.
 use Rattle.std.specs.Prelude.{ℕ, ◌+◌, ◌*◌, List, [], ◌∷◌, take}
 
--- settings: how many lines a core has, the entry places, and what stands in the places that are free, of which no clause says anything
+-- settings: how many lines a core has, and the entry places
 pub record LinesAndPlaces : Type 0 where
   pub lines : ℕ
   pub places : List ℕ
-  pub spare : List ℕ
 
 -- the numbers that pairs of bytes hold, and none for the one byte that may be left
 abbrev pub pairs_in : List ℕ → List ℕ

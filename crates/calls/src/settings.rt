@@ -16,23 +16,24 @@ pub struct Settings {
     count: usize,
 }
 
-// Seen as the lines and the list of entry places, and what stands in the places that are free.
+// Seen as the lines and the list of entry places. Places that are not used hold zeros, so that the two tell all of the settings.
 impl Model for Settings {
-    ghost use Rattle.std.specs.Prelude.{◌≡◌, ◌≤◌, ◌++◌, length, take, drop};
-    ghost use Rattle.std.proofs.Common.{refl, arith, take-append-drop, length-take-le};
+    ghost use Rattle.std.specs.Prelude.{◌≡◌, ◌≤◌, ◌++◌, ◌-◌, length, take, drop, replicate};
+    ghost use Rattle.std.proofs.Common.{◌∙◌, sym, ap, arith, take-append-drop, length-take-le};
     ghost use Rattle.calls.specs.Settings.{LinesAndPlaces};
 
     ghost Value = { LinesAndPlaces };
 
-    ghost view = { λ s. record { lines = s.lines; places = take s.count s.kept; spare = drop s.count s.kept } };
+    ghost view = { λ s. record { lines = s.lines; places = take s.count s.kept } };
 
-    ghost invariant = { λ s. (s.count ≤ 9) × (length s.kept ≡ 9) };
+    ghost invariant = { λ s. (s.count ≤ 9) × (length s.kept ≡ 9) × (drop s.count s.kept ≡ replicate (9 - s.count) 0) };
 
-    ghost inverse = { λ s. record { lines = s.lines; kept = s.places ++ s.spare; count = length s.places } };
+    ghost inverse = { λ s. record { lines = s.lines; kept = s.places ++ replicate (9 - length s.places) 0; count = length s.places } };
 
     ghost inverse_ok = { λ s h i. record {
       lines = s.lines;
-      kept = take-append-drop s.count s.kept i;
+      kept = (ap (λ n. take s.count s.kept ++ replicate (9 - n) 0) (length-take-le s.count s.kept (omega (arith, h.0, h.1)))
+          ∙ ap (λ k. take s.count s.kept ++ k) (sym h.2) ∙ take-append-drop s.count s.kept) i;
       count = length-take-le s.count s.kept (omega (arith, h.0, h.1)) i;
     } };
 }

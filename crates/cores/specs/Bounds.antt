@@ -1,10 +1,11 @@
 -- How far a core's pc and count go in each state.
---   pc_most, count_most  by state;  WithinBounds  of what people see of a core
+--   pc_most, count_most  by state;  WithinBounds  what is true of every core
 -- Assumes nothing.
-use Rattle.std.specs.Prelude.{ℕ, ◌-◌, ◌≤◌}
+use Rattle.std.specs.Prelude.{ℕ, ◌-◌, ◌≤◌, length}
 use Rattle.formats.specs.declared.bounds.TheConstants.{MOST_INSTRUCTIONS, MOST_LINES, MOST_PERFORMED}
 use Rattle.model.specs.declared.state.State.{State}
-use Rattle.model.specs.declared.state.Status.{Status}
+use Rattle.model.specs.Lines.{Distinct}
+use Rattle.model.specs.Cores.{Core}
 use Rattle.model.specs.declared.state.State.TheVariants.{Commit, Stopped}
 
 -- a core that goes on stands at one of 512 instructions; in COMMIT, at an END, which has a next one; HALT moves past itself
@@ -18,8 +19,10 @@ abbrev pub count_most : State → ℕ
 count_most Commit = MOST_PERFORMED - 1
 count_most _ = MOST_PERFORMED
 
--- what is true of what people see of a core, whatever was done to it
-pub record WithinBounds (s : Status) : Type 0 where
-  pub pc : s.pc ≤ pc_most s.state
-  pub count : s.count ≤ count_most s.state
-  pub used : s.used ≤ MOST_LINES
+-- what is true of every core, whatever was done to it
+pub record WithinBounds (c : Core) : Type 0 where
+  pub pc : c.context.pc ≤ pc_most c.state
+  pub saved : c.saved.pc ≤ MOST_INSTRUCTIONS - 1
+  pub count : c.count ≤ count_most c.state
+  pub used : length c.lines ≤ MOST_LINES
+  pub apart : Distinct c.lines

@@ -66,6 +66,7 @@ impl Buffer {
     pub(crate) fn len(&self) -> usize
         ensures value { result ≡ length self.now }
         ensures few { result ≤ MOST_LINES }
+        ensures apart { Distinct self.now }
     {
         self.used
     }
@@ -140,6 +141,7 @@ impl Buffer {
     pub(crate) fn clear(&mut self)
         ensures { self.new ≡ [] }
     {
+        // A buffer with no line is empty already.
         if self.used != 0 {
             *self = Buffer::new();
         }

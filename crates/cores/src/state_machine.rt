@@ -122,7 +122,7 @@ impl Core {
     /// What people see of the core.
     pub fn status(&self) -> Status
         ensures value { result ≡ status_of self.now }
-        ensures bounds { WithinBounds result }
+        ensures bounds { WithinBounds self.now }
     {
         Status {
             state: self.state,

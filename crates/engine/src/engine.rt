@@ -1,6 +1,6 @@
 // An engine over any memory and any outlet, and the same with the host's pass beside it.
-ghost use Rattle.std.specs.Prelude.{◌≡◌, ◌≤◌, is_some, length, IfSome};
-ghost use Rattle.model.specs.Engine.{check, new_cores, make};
+ghost use Rattle.std.specs.Prelude.{◌≡◌, ◌<◌, ◌≤◌, is_some, length};
+ghost use Rattle.model.specs.Engine.{check, new_cores, make, core_at};
 ghost use Rattle.model.specs.Calls.{step, following, turn, clear, hold, read, give_back, take_oldest, record_at, Tags, holder, status};
 ghost use Rattle.model.specs.Runs.{reply, played};
 ghost use Rattle.cores.specs.Bounds.{WithinBounds};
@@ -183,6 +183,7 @@ impl<M: Memory, O: Outlet> Engine<M, O> {
     pub fn record(&self, place: usize) -> Result<RecordEntry, RecordRefusal>
         ensures value { result ≡ record_at self.now place }
         ensures few { length self.now.entries ≤ MOST_ENTRIES }
+        ensures lines { self.now.capacity ≤ MOST_LINES }
     {
         let shared = &self.shared;
         shared.record.get(place)
@@ -206,7 +207,7 @@ impl<M: Memory, O: Outlet> Engine<M, O> {
     /// What people see of a core, or None where there is no such core.
     pub fn status(&self, i: usize) -> Option<Status>
         ensures value { result ≡ status self.now i }
-        ensures bounds { IfSome result WithinBounds }
+        ensures bounds { i < length self.now.cores → WithinBounds (core_at self.now i) }
         ensures few { length self.now.cores ≤ MOST_CORES }
         ensures next { self.now.next ≤ MOST_CORES }
     {
@@ -330,6 +331,7 @@ impl<M: Memory, O: Outlet> Hosted<M, O> {
     pub fn record(&self, place: usize) -> Result<RecordEntry, RecordRefusal>
         ensures value { result ≡ record_at self.now place }
         ensures few { length self.now.entries ≤ MOST_ENTRIES }
+        ensures lines { self.now.capacity ≤ MOST_LINES }
     {
         self.engine.record(place)
     }
@@ -344,7 +346,7 @@ impl<M: Memory, O: Outlet> Hosted<M, O> {
     /// What people see of a core, or None where there is no such core.
     pub fn status(&self, i: usize) -> Option<Status>
         ensures value { result ≡ status self.now i }
-        ensures bounds { IfSome result WithinBounds }
+        ensures bounds { i < length self.now.cores → WithinBounds (core_at self.now i) }
         ensures few { length self.now.cores ≤ MOST_CORES }
         ensures next { self.now.next ≤ MOST_CORES }
     {

@@ -45,7 +45,8 @@ fn play_argument(rt: &HostRuntime, i: usize) -> io::Result<bool> {
     Ok(true)
 }
 
-// Plays standard input. Not a part of `main`, so that the stack that one scenario takes is not held while another is played.
+// Plays standard input. Neither this nor `play_argument` is made a part of `main`, whose stack would then hold that of both,
+// whichever is played.
 #[inline(never)]
 fn play_standard_input(rt: &HostRuntime) -> io::Result<()> {
     let end = Scenario::play(rt, rt.stdin())?;

@@ -18,11 +18,11 @@ fn leading_digits(token: &[u8]) -> usize
         .count()
 }
 
-// The bytes that pairs of hexadecimal digits write. Memory is asked for only where each byte is a digit.
+// The bytes that pairs of hexadecimal digits write. Memory is asked for only where the token is pairs of digits.
 fn read_pairs(heap: Global, token: &[u8]) -> Result<Option<Vec<u8>>, AllocError>
     ensures { IfOk result (λ o. option_map vec_items o ≡ read_pairs token.now) }
 {
-    if leading_digits(token) < token.len() {
+    if token.len() % 2 != 0 || leading_digits(token) < token.len() {
         return Ok(None);
     }
     match hex::decode(heap, token) {
