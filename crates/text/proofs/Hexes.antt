@@ -1,13 +1,10 @@
 -- Bytes as hexadecimal text.
 -- Assumes nothing.
-use Rattle.std.proofs.Common.{◌≡◌, ℕ, zero, suc, ◌+◌, ◌/◌, ◌%◌, ◌<◌, ◌-◌, true, false, List, [], ◌∷◌, ◌++◌, eqb, ◌≤◌, length, get_or, take, drop, min, sym, refl, ap, add-zero, add-suc, ◌∙◌, inl, inr, arith}
+use Rattle.std.proofs.Common.{◌≡◌, ℕ, zero, suc, ◌+◌, ◌/◌, ◌%◌, ◌<◌, ◌-◌, List, [], ◌∷◌, ◌++◌, ◌≤◌, length, get_or, take, drop, min, sym, ap, add-zero, add-suc, ◌∙◌, arith}
 use native.Mathlib.Nat.{div-div-eq-div-mul}
-use Rattle.std.specs.Fmt.{char_count, digit_glyph, digits_onto, digits, padded_integral, format_spec}
-use Rattle.std.proofs.lemmas.Bool.{cases_lt}
 use Rattle.std.proofs.lemmas.List.{take_all, take_more, flat_map_more, drop_all, drop-append-le}
-use Rattle.std.proofs.lemmas.Bool.Decides.{nat_tests}
 use Rattle.formats.specs.Bytes.{bytes_of}
-use Rattle.formats.proofs.Bytes.{bytes_sized, byte_at}
+use Rattle.formats.proofs.Bytes.{bytes_sized}
 use Rattle.text.specs.Digits.{hex_byte, hex_text}
 
 -- a number's eight bytes
@@ -26,45 +23,6 @@ lowest j (suc k) n =
     let long : j ≤ length (bytes_of (j + k) (n / 256)) = omega (arith, (bytes_sized (j + k) (n / 256)).0) in
     rw (add-suc, drop-append-le) (ap (λ (l : List ℕ). l ++ (n % 256 ∷ [])) (lowest j k (n / 256)))
 
--- the digits of a byte: two of them, or one
-last_digit : (k q : ℕ) (acc : List ℕ) → q < 16 → digits_onto (suc k) 16 true q acc ≡ digit_glyph true q ∷ acc
-last_digit k q acc small =
-    let none : q / 16 ≡ 0 = omega arith in
-    let same : q % 16 ≡ q = omega arith in
-    rw (none, same)
-
-both_digits : (b : ℕ) → 16 ≤ b → b < 256 → digits 16 true b ≡ hex_byte b
-unfolding digits
-both_digits b large small =
-    let some : eqb (b / 16) 0 ≡ false = grind (arith, nat_tests) in
-    rw some (last_digit 62 (b / 16) (digit_glyph true (b % 16) ∷ []) (omega arith))
-
-one_digit : (b : ℕ) → b < 16 → digits 16 true b ≡ digit_glyph true b ∷ []
-unfolding digits
-one_digit b small = last_digit 63 b [] small
-
--- what is written for a byte: in two places, a zero in front of one digit
-abbrev pub padded : ℕ → List ℕ
-padded b = padded_integral (format_spec 32 0 4 2 18446744073709551615) false [] (digits 16 true b)
-
-one_padded : (g : ℕ) → padded_integral (format_spec 32 0 4 2 18446744073709551615) false [] (g ∷ []) ≡ 48 ∷ g ∷ []
-unfolding padded_integral char_count
-one_padded g = refl
-
-two_padded : (g h : ℕ) → padded_integral (format_spec 32 0 4 2 18446744073709551615) false [] (g ∷ h ∷ []) ≡ g ∷ h ∷ []
-unfolding padded_integral char_count
-two_padded g h = refl
-
-two_digits : (b : ℕ) → b < 256 → padded b ≡ hex_byte b
-two_digits b small =
-    elim (cases_lt b 16) [
-      | inl h ↦
-          let none : b / 16 ≡ 0 = omega arith in
-          let same : b % 16 ≡ b = omega arith in
-          rw (one_digit b h, one_padded, none, same)
-      | inr h ↦ rw (both_digits b h small, two_padded)
-    ]
-
 -- the bytes that are written are the lowest, at most eight
 pub chosen : (n k skipped : ℕ) (bs : List ℕ) → bs ≡ eight n → skipped ≡ 8 - k → take (8 - skipped) (drop skipped bs) ≡ bytes_of (min k 8) n
 chosen n k skipped bs is skips =
@@ -75,12 +33,8 @@ chosen n k skipped bs is skips =
     take_all (8 - skipped) (drop skipped bs) (omega arith) ∙ low
 
 -- one byte more
-pub one_more : (m n : ℕ) (bs : List ℕ) (i : ℕ) → bs ≡ bytes_of m n → i < length bs → hex_text (take i bs) ++ padded (get_or bs i 0) ≡ hex_text (take (i + 1) bs)
-one_more m n bs i are inside =
-    let small : get_or bs i 0 < 256 = rw are (byte_at (bytes_of m n) i (bytes_sized m n).1) in
-    ap (λ (l : List ℕ). hex_text (take i bs) ++ l) (two_digits (get_or bs i 0) small)
-    ∙ flat_map_more hex_byte [] (take i bs) (get_or bs i 0)
-    ∙ ap hex_text (sym (take_more bs i 0 inside))
+pub one_more : (m n : ℕ) (bs : List ℕ) (i : ℕ) → bs ≡ bytes_of m n → i < length bs → hex_text (take i bs) ++ hex_byte (get_or bs i 0) ≡ hex_text (take (i + 1) bs)
+one_more m n bs i are inside = flat_map_more hex_byte [] (take i bs) (get_or bs i 0) ∙ ap hex_text (sym (take_more bs i 0 inside))
 
 -- and all of them
 pub all_bytes : (m n : ℕ) (bs : List ℕ) (i : ℕ) → bs ≡ bytes_of m n → length bs ≤ i → hex_text (take i bs) ≡ hex_text (bytes_of m n)
